@@ -1,0 +1,77 @@
+-- The laws of `tab`. Assumes nothing.
+use Prim.Native.Nat.{ℕ, zero, suc, _+_, _≤_, _<_}
+use mathlib.Core.Path.{_≡_, refl, _∙_, sym, ap}
+use mathlib.Core.List.{List, [], _∷_, _++_}
+use mathlib.Core.Logic.{_⊎_, ⊎-elim, _≢_}
+use native.Mathlib.Omega.{arith}
+use native.Mathlib.Nat.{add-zero, zero-add, add-suc, suc-add, not-suc-le-zero, le-of-suc-le-suc}
+use native.Mathlib.Numerals.{add-one}
+use lib.ListN.{length, getD, set, drop, length-append, length-drop, length-set}
+use lib.Seq.{ext-getD, getD-set-same, getD-set-other, drop-cons, set-at, append-snoc}
+use Rattle.lists.specs.Lists.{tabFrom, tab}
+use Rattle.lists.proofs.Cases.{same-or}
+
+length-tabFrom : (f : ℕ → ℕ) (k n : ℕ) → length (tabFrom f k n) ≡ n
+unfolding tabFrom
+length-tabFrom f k zero = refl
+length-tabFrom f k (suc n) = ap suc (length-tabFrom f (suc k) n)
+
+getD-tabFrom : (f : ℕ → ℕ) (k n i d : ℕ) → i < n → getD (tabFrom f k n) i d ≡ f (k + i)
+unfolding tabFrom
+getD-tabFrom f k zero i d h = absurd (not-suc-le-zero h)
+getD-tabFrom f k (suc n) zero d h = rw add-zero
+getD-tabFrom f k (suc n) (suc i) d h = getD-tabFrom f (suc k) n i d (le-of-suc-le-suc h) ∙ rw (suc-add, add-suc)
+
+pub length-tab : (f : ℕ → ℕ) (n : ℕ) → length (tab f n) ≡ n
+unfolding tab
+length-tab f n = length-tabFrom f 0 n
+
+pub getD-tab : (f : ℕ → ℕ) (n i d : ℕ) → i < n → getD (tab f n) i d ≡ f i
+unfolding tab
+getD-tab f n i d h = getD-tabFrom f 0 n i d h ∙ rw zero-add
+
+-- n numbers with f i at each i are the table
+pub is-tab : (l : List ℕ) (f : ℕ → ℕ) (n : ℕ) → length l ≡ n → ((i : ℕ) → i < n → getD l i 0 ≡ f i) → l ≡ tab f n
+is-tab l f n e h =
+    ext-getD 0 l (tab f n) (e ∙ sym (length-tab f n))
+    (λ i hi. let low : i < n = omega arith in h i low ∙ sym (getD-tab f n i 0 low))
+
+-- two functions that agree below n have one table
+pub tab-ext : (f g : ℕ → ℕ) (n : ℕ) → ((i : ℕ) → i < n → f i ≡ g i) → tab f n ≡ tab g n
+tab-ext f g n h = is-tab (tab f n) g n (length-tab f n) (λ i hi. getD-tab f n i 0 hi ∙ h i hi)
+
+-- two functions that agree below n but at j: a store at j takes one table to the other
+pub tab-set : (f g : ℕ → ℕ) (n j : ℕ) → j < n → ((i : ℕ) → i < n → i ≢ j → f i ≡ g i) → tab f n ≡ set (tab g n) j (f j)
+tab-set f g n j hj h =
+    sym (is-tab (set (tab g n) j (f j)) f n (length-set (tab g n) j (f j) ∙ length-tab g n)
+    (λ i hi. ⊎-elim
+    (λ (e : i ≡ j). rw e (getD-set-same (tab g n) j (f j) 0 (rw length-tab hj)))
+    (λ (e : i ≢ j). getD-set-other (tab g n) j i (f j) 0 e ∙ getD-tab g n i 0 hi ∙ sym (h i hi e))
+    (same-or i j)))
+
+tabFrom-suc : (f : ℕ → ℕ) (k n : ℕ) → tabFrom f k (suc n) ≡ tabFrom f k n ++ (f (k + n) ∷ [])
+unfolding tabFrom
+tabFrom-suc f k zero = rw add-zero
+tabFrom-suc f k (suc n) =
+    ap (λ (l : List ℕ). f k ∷ l)
+    (tabFrom-suc f (suc k) n ∙ ap (λ (x : ℕ). tabFrom f (suc k) n ++ (f x ∷ [])) (suc-add k n ∙ sym (add-suc k n)))
+
+-- one value more
+pub tab-suc : (f : ℕ → ℕ) (n : ℕ) → tab f (suc n) ≡ tab f n ++ (f n ∷ [])
+unfolding tab
+tab-suc f n = tabFrom-suc f 0 n ∙ rw zero-add
+
+-- a loop that fills a list from the front: nothing filled yet, a turn, the length
+pub filled-none : (f : ℕ → ℕ) (d : List ℕ) → d ≡ tab f 0 ++ drop 0 d
+unfolding tab tabFrom
+filled-none f d = refl
+
+pub filled-more : (f : ℕ → ℕ) (d : List ℕ) (j v : ℕ) → j < length d → v ≡ f j → set (tab f j ++ drop j d) j v ≡ tab f (j + 1) ++ drop (j + 1) d
+filled-more f d j v h e =
+    rw (add-one j, tab-suc, e)
+    (ap (λ (r : List ℕ). set (tab f j ++ r) j (f j)) (drop-cons d j 0 h)
+    ∙ set-at (tab f j) (getD d j 0) (drop (suc j) d) (f j) j (length-tab f j)
+    ∙ sym (append-snoc (tab f j) (f j) (drop (suc j) d)))
+
+pub length-filled : (f : ℕ → ℕ) (d : List ℕ) (j : ℕ) → j ≤ length d → length (tab f j ++ drop j d) ≡ length d
+length-filled f d j h = simp (length-append, length-tab, length-drop) (omega arith)
