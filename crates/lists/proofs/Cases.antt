@@ -1,11 +1,13 @@
 -- Cases on numbers and on tests. Assumes nothing.
-use Prim.Native.Nat.{ℕ, _≤_, _<_}
-use mathlib.Core.Path.{_≡_, refl, sym, _∙_}
-use mathlib.Core.Bool.{Bool, true, false}
-use mathlib.Core.Logic.{_⊎_, inl, inr, _≢_}
+use Prim.Native.Nat.{ℕ, zero, suc, _≤_, _<_}
+use mathlib.Core.Path.{_≡_, refl, sym, _∙_, ap}
+use mathlib.Core.Bool.{Bool, true, false, not}
+use mathlib.Core.Logic.{_⊎_, inl, inr, ⊎-elim, _≢_}
 use native.Mathlib.Omega.{arith}
 use native.Mathlib.Decide.{decLt, ℕ-discrete}
-use Rattle.lists.specs.Lists.{both}
+use borrow.Author.Tests.{eq-eqb, ne-eqb}
+use lib.Dec.{eqb}
+use Rattle.lists.specs.Lists.{both, either, every}
 
 -- a number is below another or not
 pub below-or : (a b : ℕ) → (a < b) ⊎ (b ≤ a)
@@ -34,7 +36,7 @@ numeral true = 1
 numeral false = 0
 
 pub not-both : {t : Bool} → t ≡ true → t ≡ false → ⊥
-not-both {t} h k = let z : _≡_ {A = ℕ} 1 0 = mathlib.Core.Path.ap numeral (sym h ∙ k) in omega arith
+not-both {t} h k = let z : _≡_ {A = ℕ} 1 0 = ap numeral (sym h ∙ k) in omega arith
 
 -- two tests that hold, one by one
 pub both-true : {a b : Bool} → a ≡ true → b ≡ true → both a b ≡ true
@@ -47,3 +49,31 @@ both-left false b h = h
 pub both-right : (a b : Bool) → both a b ≡ true → b ≡ true
 both-right true b h = h
 both-right false b h = absurd (not-both h refl)
+
+-- a test that fails because one of two does
+pub both-false-left : (a b : Bool) → a ≡ false → both a b ≡ false
+both-false-left a b h = rw h
+
+pub both-false-right : (a b : Bool) → b ≡ false → both a b ≡ false
+both-false-right true b h = h
+both-false-right false b h = refl
+
+-- one of two tests that holds
+pub either-cases : (a b : Bool) → either a b ≡ true → (a ≡ true) ⊎ (b ≡ true)
+either-cases true b h = inl refl
+either-cases false b h = inr h
+
+-- a test over the numbers below n, at one of them: how a table's rule is had from one computed test
+pub every-at : (n : ℕ) (f : ℕ → Bool) → every n f ≡ true → (i : ℕ) → i < n → f i ≡ true
+unfolding every
+every-at zero f t i h = absurd (omega arith)
+every-at (suc n) f t i h =
+    let rest : (j : ℕ) → j < n → f j ≡ true = every-at n f (both-right (f n) (every n f) t) in
+    ⊎-elim (λ (l : i < n). rest i l) (λ (g : n ≤ i). let e : i ≡ n = omega arith in rw e (both-left (f n) (every n f) t)) (below-or i n)
+
+-- the test that two numbers differ
+pub alike : (a b : ℕ) → a ≡ b → not (eqb a b) ≡ false
+alike a b e = rw (eq-eqb a b e)
+
+pub unlike : (a b : ℕ) → (a ≡ b → ⊥) → not (eqb a b) ≡ true
+unlike a b n = rw (ne-eqb a b n)

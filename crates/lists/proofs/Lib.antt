@@ -1,3 +1,4 @@
 pub mod Cases
+pub mod Rows
 pub mod Splice
 pub mod Tab

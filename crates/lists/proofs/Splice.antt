@@ -126,6 +126,11 @@ splice-append b o xs ys h =
         ∙ sym (getD-append-add xs ys (i - length xs) 0)
         ∙ ap (λ (k : ℕ). getD (xs ++ ys) k 0) q
 
+-- a run put on after a run that was put before, both named
+pub splice-next : (b : List ℕ) {one two : List ℕ} (o : ℕ) (xs ys : List ℕ) → one ≡ splice b o xs → two ≡ splice one (o + length xs) ys → o + (length xs + length ys) ≤ length b
+    → two ≡ splice b o (xs ++ ys)
+splice-next b {one} {two} o xs ys e f h = f ∙ ap (λ (l : List ℕ). splice l (o + length xs) ys) e ∙ splice-append b o xs ys h
+
 -- a run over the whole of an equally long list
 pub splice-whole : (b xs : List ℕ) → length xs ≡ length b → splice b 0 xs ≡ xs
 splice-whole b xs e =

@@ -15,6 +15,16 @@ abbrev pub both : Bool → Bool → Bool
 both true b = b
 both false b = false
 
+-- one of two tests holds
+abbrev pub either : Bool → Bool → Bool
+either true b = true
+either false b = b
+
+-- a test holds at each number below n
+unfoldable pub every : ℕ → (ℕ → Bool) → Bool
+every zero f = true
+every (suc n) f = both (f n) (every n f)
+
 -- f k, f (k + 1), .., n of them
 unfoldable pub tabFrom : (ℕ → ℕ) → ℕ → ℕ → List ℕ
 tabFrom f k zero = []

@@ -1,0 +1,140 @@
+// The table of the header's fields (MS-CFB 2.2), and the one way to read and to store each.
+ghost use mathlib.Core.Path.{_≡_};
+ghost use mathlib.Core.Bool.{true};
+ghost use Prim.Native.Nat.{_≤_, _<_};
+ghost use lib.ListN.{length, replicate};
+ghost use Rattle.lists.specs.Lists.{splice, part, sameList};
+ghost use Rattle.words.specs.Words.{digits};
+ghost use Rattle.consts.specs.Consts.{signature};
+ghost use Rattle.header.specs.Fields.{signatureAt, offsetOf, widthOf, holdsNumber, numberAt};
+
+// A field of the header: where it begins, and how many bytes it has.
+pub struct Field {
+    pub at: usize,
+    pub width: usize,
+}
+
+// The fields by their places in the table.
+pub(crate) const SIGNATURE: usize = 0;
+
+pub(crate) const CLASS: usize = 1;
+
+pub(crate) const MINOR: usize = 2;
+
+pub(crate) const MAJOR: usize = 3;
+
+pub(crate) const BYTE_ORDER: usize = 4;
+
+pub(crate) const SECTOR_SHIFT: usize = 5;
+
+pub(crate) const MINI_SHIFT: usize = 6;
+
+pub(crate) const RESERVED: usize = 7;
+
+pub(crate) const DIRS: usize = 8;
+
+pub(crate) const FATS: usize = 9;
+
+pub(crate) const DIR: usize = 10;
+
+pub(crate) const TRANSACTION: usize = 11;
+
+pub(crate) const CUTOFF: usize = 12;
+
+pub(crate) const MINIFAT: usize = 13;
+
+pub(crate) const MINIFATS: usize = 14;
+
+pub(crate) const DIFAT: usize = 15;
+
+pub(crate) const DIFATS: usize = 16;
+
+pub(crate) const ENTRIES: usize = 17;
+
+// The table of fields that the reader and the writer go by; the last is the first of the 109 entries.
+pub(crate) const FIELDS: [Field; 18] = [
+    Field { at: 0, width: 8 },
+    Field { at: 8, width: 16 },
+    Field { at: 24, width: 2 },
+    Field { at: 26, width: 2 },
+    Field { at: 28, width: 2 },
+    Field { at: 30, width: 2 },
+    Field { at: 32, width: 2 },
+    Field { at: 34, width: 6 },
+    Field { at: 40, width: 4 },
+    Field { at: 44, width: 4 },
+    Field { at: 48, width: 4 },
+    Field { at: 52, width: 4 },
+    Field { at: 56, width: 4 },
+    Field { at: 60, width: 4 },
+    Field { at: 64, width: 4 },
+    Field { at: 68, width: 4 },
+    Field { at: 72, width: 4 },
+    Field { at: 76, width: 4 },
+];
+
+// The number in a field of a whole header, by the field's place in the table.
+pub(crate) fn number_at(b: &[u8], place: usize) -> u32
+    requires { ⌜ 512 ≤ length (now b) ⌝ }
+    requires { ⌜ holdsNumber place ≡ true ⌝ }
+    ensures { λ r. ⌜ r ≡ numberAt (now (b .entry)) place ⌝ }
+{
+    let f = FIELDS[place];
+    let at = f.at;
+    let w = f.width;
+    if w == 2 {
+        words::read16(b, at)
+    } else {
+        words::read32(b, at)
+    }
+}
+
+// Stores a number in a field, by the field's place in the table.
+pub(crate) fn put_number(buf: &mut [u8], place: usize, v: u32)
+    requires { ⌜ 512 ≤ length (now buf) ⌝ }
+    requires { ⌜ holdsNumber place ≡ true ⌝ }
+    ensures { λ _. ⌜ now (buf .exit) ≡ splice (now (buf .entry)) (offsetOf place) (digits (widthOf place) v) ⌝ }
+{
+    let f = FIELDS[place];
+    let at = f.at;
+    let w = f.width;
+    if w == 2 {
+        words::put16(buf, at, v);
+    } else {
+        words::put32(buf, at, v);
+    }
+}
+
+// Stores zeros in a field, by the field's place in the table.
+pub(crate) fn put_zeros(buf: &mut [u8], place: usize)
+    requires { ⌜ 512 ≤ length (now buf) ⌝ }
+    requires { ⌜ place < 18 ⌝ }
+    ensures { λ _. ⌜ now (buf .exit) ≡ splice (now (buf .entry)) (offsetOf place) (replicate (widthOf place) 0) ⌝ }
+{
+    let f = FIELDS[place];
+    let at = f.at;
+    let end = at + f.width;
+    words::fill(&mut buf[at..end], 0);
+}
+
+// Whether the first eight bytes are the signature.
+pub(crate) fn signed(b: &[u8]) -> bool
+    requires { ⌜ 512 ≤ length (now b) ⌝ }
+    ensures { λ r. ⌜ r ≡ sameList (part (now (b .entry)) 0 8) signature ⌝ }
+{
+    let f = FIELDS[SIGNATURE];
+    let at = f.at;
+    let end = at + f.width;
+    words::same(&b[at..end], &consts::MAGIC_NUMBER)
+}
+
+// Stores the signature, whole.
+pub(crate) fn put_signature(buf: &mut [u8])
+    requires { ⌜ 512 ≤ length (now buf) ⌝ }
+    ensures { λ _. ⌜ now (buf .exit) ≡ splice (now (buf .entry)) (offsetOf signatureAt) signature ⌝ }
+{
+    let f = FIELDS[SIGNATURE];
+    let at = f.at;
+    let end = at + f.width;
+    words::copy(&consts::MAGIC_NUMBER, &mut buf[at..end]);
+}
