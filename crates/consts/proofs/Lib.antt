@@ -1,0 +1,5 @@
+pub mod Meaning
+pub mod Runs
+pub mod Items
+pub mod Puts
+pub mod Decimal

@@ -1,0 +1,144 @@
+-- Texts put into a buffer, one after the other. Assumes nothing.
+use Prim.Native.Nat.{ℕ, zero, suc, _+_, _-_, _/_, _%_, _^_, _≤_, _<_}
+use mathlib.Core.Path.{_≡_, refl, _∙_, sym, ap}
+use mathlib.Core.List.{List, [], _∷_, _++_, append-assoc}
+use mathlib.Core.Logic.{_≢_}
+use native.Mathlib.Omega.{arith}
+use native.Mathlib.Nat.{add-zero, zero-add, sub-zero, zero-sub, suc-sub-suc}
+use native.Mathlib.Numerals.{add-one}
+use borrow.Author.Tests.{eq-eqb, ne-eqb}
+use lib.ListN.{length, getD, take, drop, set, replicate, length-append, length-set}
+use lib.Seq.{take-suc, take-length, append-snoc}
+use Rattle.lists.specs.Lists.{splice}
+use Rattle.lists.proofs.Splice.{length-splice, splice-nil, splice-append, set-splice}
+use Rattle.consts.specs.declared.Sector.{Sector}
+use Rattle.consts.specs.declared.Text.{Text}
+use Rattle.consts.specs.Text.{decimalOf, countOf, rangeOf, textOf, Put, written}
+use Rattle.consts.proofs.Decimal.{decimal-one, decimal-more, decimal-of-usize, decimal-of-u32}
+
+-- one byte more, stored at the place past the text
+pub put-byte : {b : List ℕ} {at : ℕ} {xs : List ℕ} {r : ℕ} {after : List ℕ} → Put b at xs r after → (v : ℕ) → r < length b
+    → Put b at (xs ++ (v ∷ [])) (r + 1) (set after r v)
+put-byte {b} {at} {xs} {r} {after} p v h =
+    let w : r ≡ at + length xs = p .place in
+    let fits : at + length xs ≤ length b = omega arith in
+    let room : at + length xs < length (splice b at xs) = rw (length-splice b at xs fits) (omega arith) in
+    record {
+      place = rw length-append (omega arith);
+      kept = rw length-set (p .kept);
+      buffer =
+          ap (λ (l : List ℕ). set l r v) (p .buffer)
+          ∙ ap (λ (k : ℕ). set (splice b at xs) k v) w
+          ∙ set-splice (splice b at xs) (at + length xs) v room
+          ∙ splice-append b at xs (v ∷ []) (omega arith);
+    }
+
+-- a text put past another
+pub put-after : {b : List ℕ} {at : ℕ} {xs : List ℕ} {r : ℕ} {mid ys : List ℕ} {q : ℕ} {after : List ℕ} → Put b at xs r mid → Put mid r ys q after
+    → at + (length xs + length ys) ≤ length b → Put b at (xs ++ ys) q after
+put-after {b} {at} {xs} {r} {mid} {ys} {q} {after} p s fits =
+    let w : r ≡ at + length xs = p .place in
+    let e : q ≡ r + length ys = s .place in
+    record {
+      place = rw length-append (omega arith);
+      kept = s .kept ∙ p .kept;
+      buffer =
+          s .buffer
+          ∙ ap (λ (l : List ℕ). splice l r ys) (p .buffer)
+          ∙ ap (λ (k : ℕ). splice (splice b at xs) k ys) w
+          ∙ splice-append b at xs ys fits;
+    }
+
+-- what the loop over a word keeps: its first i bytes are put
+pub record Putting (b : List ℕ) (at : ℕ) (word : List ℕ) (i : ℕ) (after : List ℕ) : Type 0 where
+  pub low : i ≤ length word
+  pub done : Put b at (take i word) (at + i) after
+
+pub putting-begun : (b : List ℕ) (at : ℕ) (word : List ℕ) → Putting b at word 0 b
+putting-begun b at word = record {
+  low = omega arith;
+  done = record { place = refl; kept = refl; buffer = sym (splice-nil b at) };
+}
+
+pub putting-on : {b : List ℕ} {at : ℕ} {word : List ℕ} {i : ℕ} {after : List ℕ} → Putting b at word i after → i < length word
+    → at + length word ≤ length b → Putting b at word (i + 1) (set after (at + i) (getD word i 0))
+putting-on {b} {at} {word} {i} {after} p h fits =
+    let next : Put b at (take i word ++ (getD word i 0 ∷ [])) (at + i + 1) (set after (at + i) (getD word i 0)) = put-byte (p .done) (getD word i 0) (omega arith) in
+    let t : take (i + 1) word ≡ take i word ++ (getD word i 0 ∷ []) = rw (add-one i) (take-suc word i 0 h) in
+    let q : at + (i + 1) ≡ at + i + 1 = omega arith in
+    record { low = omega arith; done = rw (t, q) next }
+
+pub putting-over : {b : List ℕ} {at : ℕ} {word : List ℕ} {i : ℕ} {after : List ℕ} → Putting b at word i after → length word ≤ i → Put b at word (at + i) after
+putting-over {b} {at} {word} {i} {after} p high =
+    let e : i ≡ length word = omega arith in
+    let t : take i word ≡ word = ap (λ (k : ℕ). take k word) e ∙ take-length word in
+    rw t at (p .done)
+
+-- the number of digits
+pub decimal-length-one : (n : ℕ) → n < 10 → length (decimalOf n) ≡ 1
+decimal-length-one n h = ap length (decimal-one n h)
+
+pub decimal-length-more : (n : ℕ) → 10 ≤ n → length (decimalOf n) ≡ length (decimalOf (n / 10)) + 1
+decimal-length-more n h = ap length (decimal-more n h) ∙ length-append (decimalOf (n / 10)) ((48 + n % 10) ∷ [])
+
+-- a number of one digit, and the last digit of a longer one
+pub put-digit : (b : List ℕ) (at n : ℕ) → n < 10 → at + length (decimalOf n) ≤ length b → Put b at (decimalOf n) (at + 1) (set b at (48 + n))
+put-digit b at n h fits =
+    let none : Put b at [] at b = record { place = sym (add-zero at); kept = refl; buffer = sym (splice-nil b at) } in
+    rw (decimal-one n h) (put-byte none (48 + n) (omega (arith, decimal-length-one n h)))
+
+pub put-digits : {b : List ℕ} {at r : ℕ} {after : List ℕ} (n : ℕ) → 10 ≤ n → at + length (decimalOf n) ≤ length b → Put b at (decimalOf (n / 10)) r after
+    → Put b at (decimalOf n) (r + 1) (set after r (48 + n % 10))
+put-digits {b} {at} {r} {after} n h fits p =
+    let room : r < length b = omega (arith, decimal-length-more n h, p .place) in
+    rw (decimal-more n h) (put-byte p (48 + n % 10) room)
+
+-- a count of one is its word; any other is the number, a space and the word
+pub put-one : (n : ℕ) {b word : List ℕ} {r : ℕ} {after : List ℕ} → n ≡ 1 → Put b 0 word r after → Put b 0 (countOf n word) r after
+unfolding countOf
+put-one n e p = rw (eq-eqb n 1 e) p
+
+pub put-many : (n : ℕ) {b : List ℕ} {p : ℕ} {one : List ℕ} {q : ℕ} {two word : List ℕ} {r : ℕ} {after : List ℕ} → n ≢ 1 → n < 2 ^ 64
+    → 21 + length word ≤ length b → Put b 0 (decimalOf n) p one → Put one p (32 ∷ []) q two → Put two q word r after → Put b 0 (countOf n word) r after
+unfolding countOf
+put-many n {b} {word = word} ne small fits x y z =
+    let few : length (decimalOf n) ≤ 20 = decimal-of-usize n small in
+    let front : length (decimalOf n ++ (32 ∷ [])) ≡ length (decimalOf n) + 1 = length-append (decimalOf n) (32 ∷ []) in
+    let whole : Put b 0 (decimalOf n ++ (32 ∷ []) ++ word) _ _ = put-after (put-after x y (omega arith)) z (omega arith) in
+    rw (ne-eqb n 1 ne, ← append-snoc (decimalOf n) 32 word) whole
+
+-- a range of one number is that number; any other is the first, two dots, an equals sign and the last
+pub put-same : (a b : ℕ) {buf : List ℕ} {r : ℕ} {after : List ℕ} → a ≡ b → Put buf 0 (decimalOf a) r after → Put buf 0 (rangeOf a b) r after
+unfolding rangeOf
+put-same a b e p = rw (eq-eqb a b e) p
+
+pub put-span : (a b : ℕ) {buf : List ℕ} {p : ℕ} {one : List ℕ} {q : ℕ} {two : List ℕ} {r : ℕ} {after : List ℕ} → a ≢ b → a < 2 ^ 32 → b < 2 ^ 32
+    → 23 ≤ length buf → Put buf 0 (decimalOf a) p one → Put one p (46 ∷ 46 ∷ 61 ∷ []) q two → Put two q (decimalOf b) r after → Put buf 0 (rangeOf a b) r after
+unfolding rangeOf
+put-span a b {buf} ne small least fits x y z =
+    let few : length (decimalOf a) ≤ 10 = decimal-of-u32 a small in
+    let less : length (decimalOf b) ≤ 10 = decimal-of-u32 b least in
+    let front : length (decimalOf a ++ (46 ∷ 46 ∷ 61 ∷ [])) ≡ length (decimalOf a) + 3 = length-append (decimalOf a) (46 ∷ 46 ∷ 61 ∷ []) in
+    let whole : Put buf 0 (decimalOf a ++ (46 ∷ 46 ∷ 61 ∷ []) ++ decimalOf b) _ _ = put-after (put-after x y (omega arith)) z (omega arith) in
+    rw (ne-eqb a b ne, ← append-assoc (decimalOf a) (46 ∷ 46 ∷ 61 ∷ []) (decimalOf b)) whole
+
+-- what is left of a list of one number
+drop-replicate : (k n v : ℕ) → drop k (replicate n v) ≡ replicate (n - k) v
+drop-replicate zero n v = rw sub-zero
+drop-replicate (suc k) zero v = rw zero-sub
+drop-replicate (suc k) (suc n) v = rw suc-sub-suc (drop-replicate k n v)
+
+-- a text at the front of 32 zeros
+pub put-written : {xs : List ℕ} {r : ℕ} {after : List ℕ} → Put (replicate 32 0) 0 xs r after → _≡_ {A = Text} (record { bytes = after; len = r }) (written xs)
+unfolding written splice
+put-written {xs} {r} {after} p =
+    let l : r ≡ length xs = p .place ∙ zero-add (length xs) in
+    let d : after ≡ xs ++ replicate (32 - length xs) 0 =
+    p .buffer
+    ∙ ap (λ (k : ℕ). xs ++ drop k (replicate 32 0)) (zero-add (length xs))
+    ∙ ap (λ (t : List ℕ). xs ++ t) (drop-replicate (length xs) 32 0) in
+    rw (l, d)
+
+-- the text of an item that is known
+pub text-written : {s k : Sector} {r : ℕ} {after : List ℕ} → s ≡ k → Put (replicate 32 0) 0 (textOf k) r after → _≡_ {A = Text} (record { bytes = after; len = r }) (written (textOf s))
+text-written e p = put-written p ∙ ap (λ (k : Sector). written (textOf k)) (sym e)
