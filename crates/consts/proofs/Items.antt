@@ -115,7 +115,7 @@ closed-range p a b (x ∷ xs) =
     (true-or (goesOn b x))
 
 -- a number that is none of the four above begins a range
-begun-range : (x : ℕ) → x ≢ endOfChain → x ≢ freeSector → x ≢ difatSector → x ≢ fatSector → begun x ≡ Range x x
+pub begun-range : (x : ℕ) → x ≢ endOfChain → x ≢ freeSector → x ≢ difatSector → x ≢ fatSector → begun x ≡ Range x x
 unfolding begun
 begun-range x e f d t = rw (ne-eqb x endOfChain e, ne-eqb x freeSector f, ne-eqb x difatSector d, ne-eqb x fatSector t)
 

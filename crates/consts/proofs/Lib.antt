@@ -3,3 +3,6 @@ pub mod Runs
 pub mod Items
 pub mod Puts
 pub mod Decimal
+pub mod Listing
+pub mod Sound
+pub mod Examples

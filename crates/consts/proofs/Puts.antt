@@ -2,7 +2,7 @@
 use Prim.Native.Nat.{ℕ, zero, suc, _+_, _-_, _/_, _%_, _^_, _≤_, _<_}
 use mathlib.Core.Path.{_≡_, refl, _∙_, sym, ap}
 use mathlib.Core.List.{List, [], _∷_, _++_, append-assoc}
-use mathlib.Core.Logic.{_≢_}
+use mathlib.Core.Logic.{_⊎_, ⊎-elim, _≢_}
 use native.Mathlib.Omega.{arith}
 use native.Mathlib.Nat.{add-zero, zero-add, sub-zero, zero-sub, suc-sub-suc}
 use native.Mathlib.Numerals.{add-one}
@@ -10,10 +10,12 @@ use borrow.Author.Tests.{eq-eqb, ne-eqb}
 use lib.ListN.{length, getD, take, drop, set, replicate, length-append, length-set}
 use lib.Seq.{take-suc, take-length, append-snoc}
 use Rattle.lists.specs.Lists.{splice}
+use Rattle.lists.proofs.Cases.{same-or}
 use Rattle.lists.proofs.Splice.{length-splice, splice-nil, splice-append, set-splice}
 use Rattle.consts.specs.declared.Sector.{Sector}
+use Rattle.consts.specs.declared.Sector.the-variants.{Free, End, Fat, Difat, Range}
 use Rattle.consts.specs.declared.Text.{Text}
-use Rattle.consts.specs.Text.{decimalOf, countOf, rangeOf, textOf, Put, written}
+use Rattle.consts.specs.Text.{decimalOf, countOf, rangeOf, free, fat, difat, textOf, Put, written}
 use Rattle.consts.proofs.Decimal.{decimal-one, decimal-more, decimal-of-usize, decimal-of-u32}
 
 -- one byte more, stored at the place past the text
@@ -142,3 +144,40 @@ put-written {xs} {r} {after} p =
 -- the text of an item that is known
 pub text-written : {s k : Sector} {r : ℕ} {after : List ℕ} → s ≡ k → Put (replicate 32 0) 0 (textOf k) r after → _≡_ {A = Text} (record { bytes = after; len = r }) (written (textOf s))
 text-written e p = put-written p ∙ ap (λ (k : Sector). written (textOf k)) (sym e)
+
+-- the values that an item of the code can hold
+abbrev pub Held : Sector → Type 0
+Held (Free n) = n < 2 ^ 64
+Held End = Unit {0}
+Held (Fat n) = n < 2 ^ 64
+Held (Difat n) = n < 2 ^ 64
+Held (Range a b) = (a < 2 ^ 32) × (b < 2 ^ 32)
+
+-- the length of a count and of a range
+count-length : (n : ℕ) (word : List ℕ) → n < 2 ^ 64 → length (countOf n word) ≤ 21 + length word
+unfolding countOf
+count-length n word small =
+    let few : length (decimalOf n) ≤ 20 = decimal-of-usize n small in
+    ⊎-elim
+    (λ (e : n ≡ 1). rw (eq-eqb n 1 e) (omega arith))
+    (λ (d : n ≢ 1). rw (ne-eqb n 1 d, length-append) (omega arith))
+    (same-or n 1)
+
+range-length : (a b : ℕ) → a < 2 ^ 32 → b < 2 ^ 32 → length (rangeOf a b) ≤ 23
+unfolding rangeOf
+range-length a b small least =
+    let few : length (decimalOf a) ≤ 10 = decimal-of-u32 a small in
+    let less : length (decimalOf b) ≤ 10 = decimal-of-u32 b least in
+    ⊎-elim
+    (λ (e : a ≡ b). rw (eq-eqb a b e) (omega arith))
+    (λ (d : a ≢ b). rw (ne-eqb a b d, length-append) (omega arith))
+    (same-or a b)
+
+-- every text fits 32 bytes, with 6 to spare
+pub text-fits : (s : Sector) → Held s → length (textOf s) ≤ 26
+unfolding textOf
+text-fits (Free n) h = omega (arith, count-length n free h)
+text-fits End h = omega arith
+text-fits (Fat n) h = omega (arith, count-length n fat h)
+text-fits (Difat n) h = omega (arith, count-length n difat h)
+text-fits (Range a b) h = omega (arith, range-length a b (h .0) (h .1))
