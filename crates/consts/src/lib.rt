@@ -82,14 +82,14 @@ pub enum Item {
 fn run_of(sectors: &[u32], at: usize, value: u32) -> usize
     ensures { λ r. ⌜ r ≡ runOf value (drop at (now (sectors .entry))) ⌝ }
 {
-    let mut end = at;
-    while end < sectors.len() {
-        if sectors[end] != value {
-            return end - at;
+    let mut past = at;
+    while past < sectors.len() {
+        if sectors[past] != value {
+            return past - at;
         }
-        end += 1;
+        past += 1;
     }
-    end - at
+    past - at
 }
 
 // The last of the numbers first, first + 1, .. that the entries from `from` on go on with.

@@ -16,7 +16,7 @@ loop-holds : tie.Need-loop-holds Inv-loop μ-loop
 loop-holds c = ranging-begun _ _ _
 
 returns : tie.Need-returns Inv-loop μ-loop
-returns c = ranging-full (c .before .before .loop .inv) (c .before .loop-test .taken) (c .if1 .taken)
+returns c = ranging-full (c .before .before .loop .inv) (c .before .loop-test .taken) (omega arith)
 
 mul-if2 : tie.Need-mul-if2 Inv-loop μ-loop
 mul-if2 c = omega arith

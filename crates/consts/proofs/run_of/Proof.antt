@@ -7,10 +7,10 @@ use Rattle.consts.proofs.run_of.Statement.{statement}
 use Rattle.consts.proofs.run_of.Tie as tie
 
 abbrev Inv-loop : tie.InvT-loop
-Inv-loop sectors at value end₀ end = Counting sectors at value end
+Inv-loop sectors at value past₀ past = Counting sectors at value past
 
 abbrev μ-loop : tie.MeasureT-loop
-μ-loop sectors at value end₀ end = length sectors - end
+μ-loop sectors at value past₀ past = length sectors - past
 
 loop-holds : tie.Need-loop-holds Inv-loop μ-loop
 loop-holds c = counting-begun _ _ _
@@ -27,8 +27,8 @@ sub-result c = omega arith
 returns : tie.Need-returns Inv-loop μ-loop
 returns c = counting-stopped (c .before .before .before .loop .inv) (c .before .before .loop-test .taken) (c .if1 .taken)
 
-add-end : tie.Need-add-end Inv-loop μ-loop
-add-end c = omega arith
+add-past : tie.Need-add-past Inv-loop μ-loop
+add-past c = omega arith
 
 loop-less : tie.Need-loop-less Inv-loop μ-loop
 loop-less c = omega arith
@@ -53,7 +53,7 @@ run-of-spec =
     shared-slice-read-if1
     sub-result
     returns
-    add-end
+    add-past
     loop-less
     loop-again
     sub-result-2
