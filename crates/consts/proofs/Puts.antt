@@ -142,8 +142,8 @@ put-written {xs} {r} {after} p =
     rw (l, d)
 
 -- the text of an item that is known
-pub text-written : {s k : Sector} {r : ℕ} {after : List ℕ} → s ≡ k → Put (replicate 32 0) 0 (textOf k) r after → _≡_ {A = Text} (record { bytes = after; len = r }) (written (textOf s))
-text-written e p = put-written p ∙ ap (λ (k : Sector). written (textOf k)) (sym e)
+pub put-known : {s k : Sector} {b : List ℕ} {r : ℕ} {after : List ℕ} → s ≡ k → Put b 0 (textOf k) r after → Put b 0 (textOf s) r after
+put-known e p = rw e p
 
 -- the values that an item of the code can hold
 abbrev pub Held : Sector → Type 0

@@ -201,31 +201,35 @@ fn put_range(buf: &mut [u8], first: u32, last: u32) -> usize
     put_decimal(buf, b, last as usize)
 }
 
+// Puts the text of an item at the front and gives its length.
+fn put_sector(buf: &mut [u8], s: Sector) -> usize
+    requires { ⌜ 26 ≤ length (now buf) ⌝ }
+    ensures { λ r. ⌜ Put (now (buf .entry)) 0 (textOf s) r (now (buf .exit)) ⌝ }
+{
+    match s {
+        Sector::Free(n) => {
+            return put_count(buf, n, b"FREE");
+        }
+        Sector::End => {
+            return put_bytes(buf, 0, b"EOC");
+        }
+        Sector::Fat(n) => {
+            return put_count(buf, n, b"FAT");
+        }
+        Sector::Difat(n) => {
+            return put_count(buf, n, b"DIFAT");
+        }
+        Sector::Range(first, last) => {
+            return put_range(buf, first, last);
+        }
+    }
+}
+
 // The text of an item as the Rust's `Debug` writes it.
 pub fn text_of(s: Sector) -> Text
     ensures { λ r. ⌜ r ≡ written (textOf s) ⌝ }
 {
     let mut bytes = [0u8; 32];
-    match s {
-        Sector::Free(n) => {
-            let len = put_count(&mut bytes, n, b"FREE");
-            return Text { bytes, len };
-        }
-        Sector::End => {
-            let len = put_bytes(&mut bytes, 0, b"EOC");
-            return Text { bytes, len };
-        }
-        Sector::Fat(n) => {
-            let len = put_count(&mut bytes, n, b"FAT");
-            return Text { bytes, len };
-        }
-        Sector::Difat(n) => {
-            let len = put_count(&mut bytes, n, b"DIFAT");
-            return Text { bytes, len };
-        }
-        Sector::Range(first, last) => {
-            let len = put_range(&mut bytes, first, last);
-            return Text { bytes, len };
-        }
-    }
+    let len = put_sector(&mut bytes, s);
+    Text { bytes, len }
 }
