@@ -2,7 +2,7 @@
 use Prim.Native.Nat.{ℕ, zero, suc, _+_, _-_, _*_, _/_, _%_, _^_, _≤_, _<_}
 use mathlib.Core.Path.{_≡_, refl, _∙_, sym, ap}
 use mathlib.Core.List.{List, [], _∷_, _++_}
-use mathlib.Core.Logic.{_⊎_, inl, inr, ⊎-elim, _≢_}
+use mathlib.Core.Logic.{_⊎_, inl, inr, ⊎-elim}
 use native.Mathlib.Omega.{arith}
 use native.Mathlib.Nat.{pow-suc}
 use borrow.Author.Tests.{lt-ltb, le-ltb}
@@ -44,6 +44,13 @@ decimal-more n h =
     digits-fuel n (suc n) n (omega arith) (omega arith)
     ∙ digits-more n n h
     ∙ ap (λ (l : List ℕ). l ++ ((48 + n % 10) ∷ [])) (digits-fuel n (n / 10) (n / 10) (omega arith) (omega arith))
+
+-- the number of digits
+pub decimal-length-one : (n : ℕ) → n < 10 → length (decimalOf n) ≡ 1
+decimal-length-one n h = ap length (decimal-one n h)
+
+pub decimal-length-more : (n : ℕ) → 10 ≤ n → length (decimalOf n) ≡ length (decimalOf (n / 10)) + 1
+decimal-length-more n h = ap length (decimal-more n h) ∙ length-append (decimalOf (n / 10)) ((48 + n % 10) ∷ [])
 
 -- what holds of one digit, and of a number with one digit more, holds of every number
 pub by-digits : (P : ℕ → Type 0) → ((n : ℕ) → n < 10 → P n) → ((n : ℕ) → 10 ≤ n → P (n / 10) → P n) → (n : ℕ) → P n

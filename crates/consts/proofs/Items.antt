@@ -1,9 +1,9 @@
 -- The item that begins at a place, by the kind of its first entry: what the code of `prettify` answers is what the definition says. Assumes nothing.
-use Prim.Native.Nat.{ℕ, zero, suc, _+_, _-_, _≤_, _<_}
+use Prim.Native.Nat.{ℕ, _+_, _-_, _≤_, _<_}
 use mathlib.Core.Path.{_≡_, refl, _∙_, sym, ap, ap₂}
-use mathlib.Core.Bool.{Bool, true, false}
+use mathlib.Core.Bool.{true, false}
 use mathlib.Core.List.{List, [], _∷_}
-use mathlib.Core.Logic.{_⊎_, inl, inr, ⊎-elim, _≢_}
+use mathlib.Core.Logic.{⊎-elim, _≢_}
 use native.Mathlib.Omega.{arith}
 use borrow.Author.Tests.{eq-eqb, ne-eqb}
 use lib.Dec.{eqb}
@@ -14,7 +14,6 @@ use Rattle.consts.specs.Pretty.{begun, goesOn, joins, grown, closed, fir
 use Rattle.consts.specs.Runs.{runOf, endOf}
 use Rattle.consts.specs.declared.Sector.{Sector}
 use Rattle.consts.specs.declared.Sector.the-variants.{Free, End, Fat, Difat, Range}
-use Rattle.consts.specs.declared.Item.{Item}
 use Rattle.consts.specs.declared.Item.the-variants.{Next, Done}
 use Rattle.consts.proofs.Runs.{drop-next, run-cons, run-other, run-most, end-cons, end-other, end-within}
 

@@ -1,8 +1,9 @@
-pub mod Meaning
-pub mod Runs
-pub mod Items
-pub mod Puts
 pub mod Decimal
-pub mod Listing
-pub mod Sound
 pub mod Examples
+pub mod Items
+pub mod Listing
+pub mod Meaning
+pub mod Puts
+pub mod Runs
+pub mod Sound
+pub mod Texts

@@ -3,7 +3,7 @@ use Prim.Native.Nat.{ℕ, zero, suc, _+_, _-_, _≤_, _<_}
 use mathlib.Core.Path.{_≡_, refl, _∙_, sym, ap}
 use mathlib.Core.Bool.{true, false}
 use mathlib.Core.List.{List, [], _∷_}
-use mathlib.Core.Logic.{_⊎_, ⊎-elim}
+use mathlib.Core.Logic.{⊎-elim}
 use native.Mathlib.Omega.{arith}
 use lib.ListN.{length, getD, drop, length-drop, drop-of-length-le}
 use lib.Seq.{drop-drop}
@@ -90,17 +90,21 @@ closed-next p s (x ∷ xs) e =
     (λ (f : joins s x ≡ false). let n : Next s p ≡ Done = sym (closed-apart p s x xs f) ∙ e in let z : _≡_ {A = ℕ} 0 1 = cc in omega arith)
     (true-or (joins s x))
 
--- where there is no item there are no entries
-pub item-done : (xs : List ℕ) (p : ℕ) → itemAt xs p ≡ Done → length xs ≤ p
-item-done xs p e =
+-- where there is no item there are no entries left
+done-past : (xs : List ℕ) (p : ℕ) → itemAt xs p ≡ Done → length xs ≤ p
+done-past xs p e =
     ⊎-elim
     (λ (h : p < length xs). absurd (closed-next (p + 1) (begun (getD xs p 0)) (drop (p + 1) xs) (sym (item-at xs p h) ∙ e)))
     (λ (h : length xs ≤ p). h)
     (below-or p (length xs))
 
-pub none-left : (xs : List ℕ) (p : ℕ) → length xs ≤ p → prettifyOf (drop p xs) ≡ []
+none-left : (xs : List ℕ) (p : ℕ) → length xs ≤ p → prettifyOf (drop p xs) ≡ []
 unfolding prettifyOf
 none-left xs p h = ap prettifyOf (drop-of-length-le xs h)
+
+-- where there is no item the list from there is empty
+pub item-done : (xs : List ℕ) (p : ℕ) → itemAt xs p ≡ Done → prettifyOf (drop p xs) ≡ []
+item-done xs p e = none-left xs p (done-past xs p e)
 
 -- an item in front of those that begin at the place past it, and no item at the end
 pub ahead : (ℕ → List Sector) → Item → List Sector
@@ -123,7 +127,7 @@ items-left (suc f) xs p h = split (itemAt xs p) refl (items-left f xs)
     split (Next s q) e more =
         let k : Stands xs p s q = item-stands xs p s q e in
         rw e (ap (λ (r : List Sector). s ∷ r) (more q (omega arith)) ∙ sym (k .lists))
-    split Done e more = rw e (sym (none-left xs p (item-done xs p e)))
+    split Done e more = rw e (sym (item-done xs p e))
 
 -- the items one after the other, from the first entry on, are the whole list
 pub items-are-prettify : (xs : List ℕ) → itemsFrom (length xs) xs 0 ≡ prettifyOf xs

@@ -1,9 +1,9 @@
 -- When an entry has which kind. Assumes nothing.
 use Prim.Native.Nat.{ℕ, _≤_, _<_, _^_}
-use mathlib.Core.Path.{_≡_, refl, sym, _∙_, ap, subst}
+use mathlib.Core.Path.{_≡_, sym, subst}
 use mathlib.Core.Logic.{_⊎_, inl, inr, _≢_, _↔_}
 use native.Mathlib.Omega.{arith}
-use borrow.Author.Tests.{le-leb, lt-leb, eq-eqb, ne-eqb}
+use borrow.Author.Tests.{le-leb}
 use Rattle.lists.proofs.Cases.{below-or, same-or}
 use Rattle.consts.specs.Consts.{maxRegular, invalidSector, difatSector, fatSector, endOfChain, freeSector}
 use Rattle.consts.specs.Kinds.{kindOf}

@@ -1,17 +1,16 @@
 -- The laws of `runOf` and `endOf`, and what the loops over them keep. Assumes nothing.
-use Prim.Native.Nat.{ℕ, zero, suc, _+_, _-_, _≤_, _<_}
+use Prim.Native.Nat.{ℕ, _+_, _-_, _≤_, _<_}
 use mathlib.Core.Path.{_≡_, refl, _∙_, sym, ap}
-use mathlib.Core.Bool.{Bool, true, false}
+use mathlib.Core.Bool.{true, false}
 use mathlib.Core.List.{List, [], _∷_}
-use mathlib.Core.Logic.{_⊎_, inl, inr, ⊎-elim, _≢_}
+use mathlib.Core.Logic.{⊎-elim, _≢_}
 use native.Mathlib.Omega.{arith}
 use native.Mathlib.Numerals.{add-one}
 use borrow.Author.Tests.{eq-eqb, ne-eqb, le-leb, eqb-true, leb-true}
 use lib.Dec.{eqb, leb}
-use lib.ListN.{length, getD, drop, length-drop, drop-of-length-le}
+use lib.ListN.{length, getD, drop, drop-of-length-le}
 use lib.Seq.{drop-cons}
-use Rattle.lists.specs.Lists.{both}
-use Rattle.lists.proofs.Cases.{same-or, true-or, both-true, both-left, both-right, not-both}
+use Rattle.lists.proofs.Cases.{same-or, true-or, both-true, both-left, both-right}
 use Rattle.consts.specs.Consts.{invalidSector}
 use Rattle.consts.specs.Pretty.{goesOn}
 use Rattle.consts.specs.Runs.{runOf, endOf}

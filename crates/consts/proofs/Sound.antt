@@ -1,5 +1,5 @@
 -- What the short list says of its entries: counts of one or more, ranges that do not wrap, and nothing lost. Assumes nothing.
-use Prim.Native.Nat.{ℕ, zero, suc, _+_, _-_, _^_, _≤_, _<_}
+use Prim.Native.Nat.{ℕ, suc, _+_, _-_, _^_, _≤_, _<_}
 use mathlib.Core.Path.{_≡_, refl, _∙_, sym, ap, subst}
 use mathlib.Core.Bool.{true, false}
 use mathlib.Core.List.{List, [], _∷_, _++_, flatMap, List·Memᴰ, List·Memᴰ·cases-cons, List·Memᴰ·eq-of-singleton, List·Memᴰ·not-nil}
@@ -14,7 +14,7 @@ use Rattle.lists.specs.Lists.{tab, Below}
 use Rattle.lists.proofs.Cases.{same-or, true-or, not-both}
 use Rattle.lists.proofs.Tab.{tab-suc}
 use Rattle.consts.specs.Consts.{invalidSector, difatSector, fatSector, endOfChain, freeSector}
-use Rattle.consts.specs.Pretty.{begun, goesOn, joins, grown, gather, prettifyOf}
+use Rattle.consts.specs.Pretty.{begun, joins, grown, gather, prettifyOf}
 use Rattle.consts.specs.declared.Sector.{Sector}
 use Rattle.consts.specs.declared.Sector.the-variants.{Free, End, Fat, Difat, Range}
 use Rattle.consts.proofs.Runs.{gone-on}

@@ -1,5 +1,5 @@
 -- The numbers of a compound file, from MS-CFB 2.1 and 2.2 and from the first two groups of the Rust's consts.rs. Assumes nothing.
-use Prim.Native.Nat.{ℕ}
+use Prim.Native.Nat.{ℕ, _^_}
 use mathlib.Core.List.{List, [], _∷_}
 
 -- MS-CFB 2.2: the header is 512 bytes long.
@@ -18,23 +18,23 @@ headerDifat = 109
 abbrev pub signature : List ℕ
 signature = 0xd0 ∷ 0xcf ∷ 0x11 ∷ 0xe0 ∷ 0xa1 ∷ 0xb1 ∷ 0x1a ∷ 0xe1 ∷ []
 
--- MS-CFB 2.2, Minor Version.
+-- MS-CFB 2.2, Minor Version: the number for versions 3 and 4.
 abbrev pub minorVersion : ℕ
 minorVersion = 0x3e
 
--- MS-CFB 2.2, Byte Order.
+-- MS-CFB 2.2, Byte Order: the mark of little-endian numbers.
 abbrev pub byteOrder : ℕ
 byteOrder = 0xfffe
 
--- MS-CFB 2.2, Mini Sector Shift.
+-- MS-CFB 2.2, Mini Sector Shift: the shift of the mini stream's sectors.
 abbrev pub miniShift : ℕ
 miniShift = 6
 
--- MS-CFB 2.4: two to the mini sector shift.
+-- MS-CFB 2.2, Mini Sector Shift: a mini sector is two to the shift bytes long.
 abbrev pub miniLen : ℕ
-miniLen = 64
+miniLen = 2 ^ miniShift
 
--- MS-CFB 2.2, Mini Stream Cutoff Size.
+-- MS-CFB 2.2, Mini Stream Cutoff Size: a shorter stream is in the mini stream.
 abbrev pub miniCutoff : ℕ
 miniCutoff = 4096
 

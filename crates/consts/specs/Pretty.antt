@@ -1,6 +1,6 @@
 -- The short list of a run of entries, from the Rust's `prettify`. Assumes nothing.
-use Prim.Native.Nat.{ℕ, suc, _+_}
-use mathlib.Core.Bool.{Bool, true, false}
+use Prim.Native.Nat.{ℕ, _+_}
+use mathlib.Core.Bool.{Bool, false}
 use mathlib.Core.List.{List, [], _∷_}
 use lib.Dec.{leb, eqb}
 use lib.ListN.{drop}
@@ -55,7 +55,7 @@ unfolding gather
 prettifyOf [] = []
 prettifyOf (x ∷ xs) = gather (begun x) xs
 
--- The open item s, whose next entry would stand at p, once it is closed, and the place past it.
+-- `prettify`, its loop up to the first `push` after s: the item that s becomes, and the place past it, where p is the place of the first entry left.
 unfoldable pub closed : ℕ → Sector → List ℕ → Item
 unfolding joins grown
 closed p s [] = Next s p
@@ -63,13 +63,13 @@ closed p s (x ∷ xs) =
     let more = closed (p + 1) (grown s) xs in
     choose (joins s x) more (Next s p)
 
--- The first item of the entries, which begin at place p.
+-- `prettify`, its first item: of entries that begin at place p, with the place past it.
 unfoldable pub firstItem : ℕ → List ℕ → Item
 unfolding begun closed
 firstItem p [] = Done
 firstItem p (x ∷ xs) = closed (p + 1) (begun x) xs
 
--- The item that begins at place p, and the place past it.
+-- `prettify` of the entries from place p on: its first item and the place past it, or none where none are left.
 unfoldable pub itemAt : List ℕ → ℕ → Item
 unfolding firstItem
 itemAt xs p = firstItem p (drop p xs)

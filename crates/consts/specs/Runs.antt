@@ -1,18 +1,18 @@
 -- What the loops of `prettify` find: the length of a run and the end of a range. Assumes nothing.
-use Prim.Native.Nat.{ℕ, zero, suc, _+_}
+use Prim.Native.Nat.{ℕ, _+_}
 use mathlib.Core.List.{List, [], _∷_}
 use lib.Dec.{eqb}
 use Rattle.lists.specs.Lists.{choose}
 use Rattle.consts.specs.Pretty.{goesOn}
 
--- How many entries at the front are v.
+-- `prettify`, `*i += 1`: how often it is done, the number of entries at the front that are v.
 unfoldable pub runOf : ℕ → List ℕ → ℕ
 runOf v [] = 0
 runOf v (x ∷ xs) =
     let more = runOf v xs in
     choose (eqb x v) (more + 1) 0
 
--- The last number of the range that ends at b so far and that the entries at the front go on with.
+-- `prettify`, `*end += 1`: where it leads, the last number of a range that ends at b before the entries at the front.
 unfoldable pub endOf : ℕ → List ℕ → ℕ
 unfolding goesOn
 endOf b [] = b

@@ -9,14 +9,14 @@ use Rattle.consts.specs.declared.Sector.{Sector}
 use Rattle.consts.specs.declared.Sector.the-variants.{Free, End, Fat, Difat, Range}
 use Rattle.consts.specs.declared.Text.{Text}
 
--- The decimal digits of n, where f is at least their number less one.
+-- `{n}`, digit by digit: the digits of n / 10 and the last digit, where f bounds how many follow the first.
 unfoldable pub digits : ℕ → ℕ → List ℕ
 digits zero n = (48 + n) ∷ []
 digits (suc f) n =
     let front = digits f (n / 10) in
     choose (ltb n 10) ((48 + n) ∷ []) (front ++ ((48 + n % 10) ∷ []))
 
--- `{n}`: the decimal digits of n.
+-- `{n}`: the decimal digits of n, with no zero in front.
 unfoldable pub decimalOf : ℕ → List ℕ
 unfolding digits
 decimalOf n = digits n n
@@ -31,19 +31,19 @@ unfoldable pub rangeOf : ℕ → ℕ → List ℕ
 unfolding decimalOf
 rangeOf a b = choose (eqb a b) (decimalOf a) (decimalOf a ++ (46 ∷ 46 ∷ 61 ∷ decimalOf b))
 
--- FREE
+-- `Debug` of `Sector`: the word FREE.
 abbrev pub free : List ℕ
 free = 70 ∷ 82 ∷ 69 ∷ 69 ∷ []
 
--- EOC
+-- `Debug` of `Sector`: the word EOC.
 abbrev pub eoc : List ℕ
 eoc = 69 ∷ 79 ∷ 67 ∷ []
 
--- FAT
+-- `Debug` of `Sector`: the word FAT.
 abbrev pub fat : List ℕ
 fat = 70 ∷ 65 ∷ 84 ∷ []
 
--- DIFAT
+-- `Debug` of `Sector`: the word DIFAT.
 abbrev pub difat : List ℕ
 difat = 68 ∷ 73 ∷ 70 ∷ 65 ∷ 84 ∷ []
 
@@ -56,11 +56,11 @@ textOf (Fat n) = countOf n fat
 textOf (Difat n) = countOf n difat
 textOf (Range a b) = rangeOf a b
 
--- A text at the front of 32 bytes, zeros after it, with its length.
+-- `Debug` of `Sector`, as `text_of` gives it: the text at the front of 32 bytes, zeros after it, and its length.
 unfoldable pub written : List ℕ → Text
 written xs = record { bytes = xs ++ replicate (32 - length xs) 0; len = length xs }
 
--- What a function that puts a text into a buffer leaves: the text at its place, and the place past it.
+-- `write!`, as the functions that put a text into a buffer do it: the text over the buffer from `at` on, and the place past it.
 pub record Put (before : List ℕ) (at : ℕ) (xs : List ℕ) (r : ℕ) (after : List ℕ) : Type 0 where
   pub place : r ≡ at + length xs
   pub kept : length after ≡ length before

@@ -1,20 +1,20 @@
 // The numbers of a compound file, the six kinds of a FAT entry, and the short list of a run of entries that `prettify` gives, with its text.
 ghost use mathlib.Core.Path.{_≡_};
-ghost use mathlib.Core.List.{List};
-ghost use Prim.Native.Nat.{ℕ, _+_, _≤_};
+ghost use Prim.Native.Nat.{_+_, _≤_};
 ghost use lib.ListN.{length, drop};
-ghost use Rattle.lists.specs.Lists.{splice};
 ghost use Rattle.consts.specs.Kinds.{kindOf};
 ghost use Rattle.consts.specs.Pretty.{itemAt};
 ghost use Rattle.consts.specs.Runs.{runOf, endOf};
 ghost use Rattle.consts.specs.Text.{decimalOf, countOf, rangeOf, textOf, written, Put};
 
+// Lengths in bytes of the header and of a directory entry, and how many entries of the DIFAT the header holds.
 pub const HEADER_LEN: usize = 512;
 
 pub const DIR_ENTRY_LEN: usize = 128;
 
 pub const NUM_DIFAT_ENTRIES_IN_HEADER: usize = 109;
 
+// What the fields of a header hold.
 pub const MAGIC_NUMBER: [u8; 8] = *b"\xd0\xcf\x11\xe0\xa1\xb1\x1a\xe1";
 
 pub const MINOR_VERSION: u16 = 0x3e;
@@ -27,6 +27,7 @@ pub const MINI_SECTOR_LEN: usize = 1 << (MINI_SECTOR_SHIFT as usize);
 
 pub const MINI_STREAM_CUTOFF: u32 = 4096;
 
+// What the entries of the FAT hold.
 pub const MAX_REGULAR_SECTOR: u32 = 0xffff_fffa;
 
 pub const INVALID_SECTOR: u32 = 0xffff_fffb;

@@ -4,7 +4,8 @@ use native.Mathlib.Omega.{arith}
 use borrow.Fn.Kinds.{In}
 use borrow.Fn.PlainCycle.{Measures, is, falls, and}
 use lib.ListN.{length-set}
-use Rattle.consts.proofs.Puts.{decimal-length-one, decimal-length-more, put-digit, put-digits}
+use Rattle.consts.proofs.Decimal.{decimal-length-one, decimal-length-more}
+use Rattle.consts.proofs.Texts.{put-digit, put-digits}
 use Rattle.consts.proofs.put_decimal.Reads as reads
 use Rattle.consts.proofs.put_decimal.Kinds as kinds
 use Rattle.consts.proofs.+put_decimal.Lts-put_decimal as lts

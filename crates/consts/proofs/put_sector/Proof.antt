@@ -1,6 +1,6 @@
 -- `consts::put_sector` meets its contract: each arm puts the text of its item, and 26 bytes hold the longest. Assumes nothing.
 use Rattle.consts.specs.Text.{textOf}
-use Rattle.consts.proofs.Puts.{put-known}
+use Rattle.consts.proofs.Texts.{put-known}
 use borrow.Author.Needs.{needs}
 use Rattle.consts.proofs.put_sector.Statement.{statement}
 use Rattle.consts.proofs.put_sector.Tie as tie

@@ -1,5 +1,5 @@
 -- `consts::text_of` meets its contract: the text stands at the front of 32 zeros. Assumes nothing.
-use Rattle.consts.proofs.Puts.{put-written}
+use Rattle.consts.proofs.Texts.{put-written}
 use borrow.Author.Needs.{needs}
 use Rattle.consts.proofs.text_of.Statement.{statement}
 use Rattle.consts.proofs.text_of.Tie as tie
