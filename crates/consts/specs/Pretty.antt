@@ -55,7 +55,7 @@ unfolding gather
 prettifyOf [] = []
 prettifyOf (x ∷ xs) = gather (begun x) xs
 
--- `prettify`, its loop up to the first `push` after s: the item that s becomes, and the place past it, where p is the place of the first entry left.
+-- `prettify`, its loop while s is the last item: what s becomes, and the place past it, where the entries begin at place p.
 unfoldable pub closed : ℕ → Sector → List ℕ → Item
 unfolding joins grown
 closed p s [] = Next s p
@@ -63,7 +63,7 @@ closed p s (x ∷ xs) =
     let more = closed (p + 1) (grown s) xs in
     choose (joins s x) more (Next s p)
 
--- `prettify`, its first item: of entries that begin at place p, with the place past it.
+-- `prettify`, its first item and the place past it, where the entries begin at place p.
 unfoldable pub firstItem : ℕ → List ℕ → Item
 unfolding begun closed
 firstItem p [] = Done

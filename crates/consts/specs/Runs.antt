@@ -5,14 +5,14 @@ use lib.Dec.{eqb}
 use Rattle.lists.specs.Lists.{choose}
 use Rattle.consts.specs.Pretty.{goesOn}
 
--- `prettify`, `*i += 1`: how often it is done, the number of entries at the front that are v.
+-- `prettify`, `*i += 1`: how often it is done, which is how many entries at the front are v.
 unfoldable pub runOf : ℕ → List ℕ → ℕ
 runOf v [] = 0
 runOf v (x ∷ xs) =
     let more = runOf v xs in
     choose (eqb x v) (more + 1) 0
 
--- `prettify`, `*end += 1`: where it leads, the last number of a range that ends at b before the entries at the front.
+-- `prettify`, `*end += 1`: where it leads, which is the last number of a range that has come to b.
 unfoldable pub endOf : ℕ → List ℕ → ℕ
 unfolding goesOn
 endOf b [] = b

@@ -9,7 +9,7 @@ use Rattle.consts.specs.declared.Sector.{Sector}
 use Rattle.consts.specs.declared.Sector.the-variants.{Free, End, Fat, Difat, Range}
 use Rattle.consts.specs.declared.Text.{Text}
 
--- `{n}`, digit by digit: the digits of n / 10 and the last digit, where f bounds how many follow the first.
+-- `{n}`, f + 1 digits at most: one digit, or the digits of n / 10 and the last one.
 unfoldable pub digits : ℕ → ℕ → List ℕ
 digits zero n = (48 + n) ∷ []
 digits (suc f) n =

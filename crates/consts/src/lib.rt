@@ -7,37 +7,49 @@ ghost use Rattle.consts.specs.Pretty.{itemAt};
 ghost use Rattle.consts.specs.Runs.{runOf, endOf};
 ghost use Rattle.consts.specs.Text.{decimalOf, countOf, rangeOf, textOf, written, Put};
 
-// Lengths in bytes of the header and of a directory entry, and how many entries of the DIFAT the header holds.
+// The header's length in bytes.
 pub const HEADER_LEN: usize = 512;
 
+// A directory entry's length in bytes.
 pub const DIR_ENTRY_LEN: usize = 128;
 
+// How many entries of the DIFAT the header holds.
 pub const NUM_DIFAT_ENTRIES_IN_HEADER: usize = 109;
 
-// What the fields of a header hold.
+// The signature, the first eight bytes of a file.
 pub const MAGIC_NUMBER: [u8; 8] = *b"\xd0\xcf\x11\xe0\xa1\xb1\x1a\xe1";
 
+// The header's minor version.
 pub const MINOR_VERSION: u16 = 0x3e;
 
+// The header's mark of little-endian numbers.
 pub const BYTE_ORDER_MARK: u16 = 0xfffe;
 
+// The header's mini sector shift.
 pub const MINI_SECTOR_SHIFT: u16 = 6;
 
+// A mini sector's length in bytes.
 pub const MINI_SECTOR_LEN: usize = 1 << (MINI_SECTOR_SHIFT as usize);
 
+// The length from which on a stream is not in the mini stream.
 pub const MINI_STREAM_CUTOFF: u32 = 4096;
 
-// What the entries of the FAT hold.
+// The largest number that an entry names a sector by.
 pub const MAX_REGULAR_SECTOR: u32 = 0xffff_fffa;
 
+// The reserved entry, which names no sector and marks none.
 pub const INVALID_SECTOR: u32 = 0xffff_fffb;
 
+// The entry of a sector that holds a part of the DIFAT.
 pub const DIFAT_SECTOR: u32 = 0xffff_fffc;
 
+// The entry of a sector that holds a part of the FAT.
 pub const FAT_SECTOR: u32 = 0xffff_fffd;
 
+// The entry of the last sector of a chain.
 pub const END_OF_CHAIN: u32 = 0xffff_fffe;
 
+// The entry of a sector that is in no chain.
 pub const FREE_SECTOR: u32 = 0xffff_ffff;
 
 // What an entry of the FAT can be.
@@ -93,7 +105,7 @@ fn run_of(sectors: &[u32], at: usize, value: u32) -> usize
     past - at
 }
 
-// The last of the numbers first, first + 1, .. that the entries from `from` on go on with.
+// The last of the numbers first, first + 1, .. that the entries from `from` on go on with; a number above 0xfffffffb never joins.
 fn range_end(sectors: &[u32], from: usize, first: u32) -> u32
     ensures { λ r. ⌜ r ≡ endOf first (drop from (now (sectors .entry))) ⌝ }
 {
