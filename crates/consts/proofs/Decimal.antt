@@ -81,7 +81,7 @@ pub decimal-of-u32 : (n : ℕ) → n < 2 ^ 32 → length (decimalOf n) ≤ 10
 decimal-of-u32 n h = decimal-short 9 n (omega arith)
 
 -- the number that digits read as, after a front that reads as a
-pub readOn : ℕ → List ℕ → ℕ
+unfoldable pub readOn : ℕ → List ℕ → ℕ
 readOn a [] = a
 readOn a (d ∷ ds) = readOn (a * 10 + (d - 48)) ds
 

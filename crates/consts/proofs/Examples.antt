@@ -17,7 +17,7 @@ unfolding prettifyOf
 q-items = refl
 
 -- items, one to a line
-pub linesOf : List Sector → List ℕ
+unfoldable pub linesOf : List Sector → List ℕ
 unfolding flatMap textOf
 linesOf = flatMap (λ s. textOf s ++ (10 ∷ []))
 

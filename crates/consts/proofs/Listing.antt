@@ -107,12 +107,12 @@ pub item-done : (xs : List ℕ) (p : ℕ) → itemAt xs p ≡ Done → prettifyO
 item-done xs p e = none-left xs p (done-past xs p e)
 
 -- an item in front of those that begin at the place past it, and no item at the end
-pub ahead : (ℕ → List Sector) → Item → List Sector
+unfoldable pub ahead : (ℕ → List Sector) → Item → List Sector
 ahead rest (Next s q) = s ∷ rest q
 ahead rest Done = []
 
 -- the items from a place on, f of them at most
-pub itemsFrom : ℕ → List ℕ → ℕ → List Sector
+unfoldable pub itemsFrom : ℕ → List ℕ → ℕ → List Sector
 unfolding ahead
 itemsFrom zero xs p = []
 itemsFrom (suc f) xs p = ahead (itemsFrom f xs) (itemAt xs p)

@@ -84,7 +84,7 @@ pub range-never-wraps : (xs : List ℕ) → Below (2 ^ 32) xs → (a b : ℕ) �
 range-never-wraps xs small a b m = let h : (a ≤ b) × (b ≤ invalidSector) = prettify-sound xs small (Range a b) m in (h .0, omega arith)
 
 -- the entries that an item stands for
-pub entriesOf : Sector → List ℕ
+unfoldable pub entriesOf : Sector → List ℕ
 entriesOf (Free n) = replicate n freeSector
 entriesOf End = endOfChain ∷ []
 entriesOf (Fat n) = replicate n fatSector
