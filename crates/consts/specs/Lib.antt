@@ -1,0 +1,5 @@
+pub mod Consts
+pub mod Kinds
+pub mod Pretty
+pub mod Runs
+pub mod Text
