@@ -4,6 +4,7 @@
 //! - `asked`: what the four files answer, in the numbers of the specification.
 //! - `abi`: the functions of the archive, or of the model with the feature `model`.
 //! - `model`: the same functions, written from the specification alone.
+//! - `replay` (`cfg(oracle)`): the fixed list of answers for a program that has no Rust at hand.
 //! - `inputs`, `random`: headers and lists to compare on, the same at every run.
 
 #[cfg(oracle)]
@@ -20,6 +21,8 @@ pub mod asked;
 pub mod image;
 #[cfg(oracle)]
 pub mod internal;
+#[cfg(oracle)]
+pub mod replay;
 
 pub mod abi;
 pub mod inputs;
