@@ -4,14 +4,13 @@
 
 use std::env;
 use std::fs;
-use std::path::{Path, PathBuf};
-use std::process;
+use std::path::PathBuf;
 
 const FILES: [&str; 4] = ["consts", "header", "alloc", "chain"];
 
 fn main() {
-    println!("cargo:rerun-if-changed=build.rs");
-    println!("cargo:rustc-check-cfg=cfg(oracle)");
+    println!("cargo::rerun-if-changed=build.rs");
+    println!("cargo::rustc-check-cfg=cfg(oracle)");
     name_the_files();
     if env::var_os("CARGO_FEATURE_MODEL").is_none() {
         link_the_archive();
@@ -20,7 +19,7 @@ fn main() {
 
 /// The folder that a variable names, or one below the project's own folder.
 fn folder(variable: &str, usual: &str) -> PathBuf {
-    println!("cargo:rerun-if-env-changed={variable}");
+    println!("cargo::rerun-if-env-changed={variable}");
     match env::var_os(variable) {
         Some(named) => PathBuf::from(named),
         None => PathBuf::from(env::var_os("CARGO_MANIFEST_DIR").unwrap()).join(usual),
@@ -34,7 +33,7 @@ fn name_the_files() {
     let mut found = 0;
     for name in FILES {
         let file = from.join(format!("{name}.rs"));
-        println!("cargo:rerun-if-changed={}", file.display());
+        println!("cargo::rerun-if-changed={}", file.display());
         if file.is_file() {
             found += 1;
             let path = file.canonicalize().unwrap();
@@ -44,7 +43,7 @@ fn name_the_files() {
     if found < FILES.len() {
         list.clear();
     } else {
-        println!("cargo:rustc-cfg=oracle");
+        println!("cargo::rustc-cfg=oracle");
     }
     let out = PathBuf::from(env::var_os("OUT_DIR").unwrap());
     fs::write(out.join("internal.rs"), list).unwrap();
@@ -54,18 +53,12 @@ fn name_the_files() {
 fn link_the_archive() {
     let from = folder("RASUVELK_ARCHIVE", "../target/host");
     let archive = from.join("libexport.a");
-    println!("cargo:rerun-if-changed={}", archive.display());
+    println!("cargo::rerun-if-changed={}", archive.display());
     if !archive.is_file() {
-        stop(&archive);
+        let advice = "make it with `scripts/host-archive export`, or build with `--features model`";
+        println!("cargo::error=There is no {}: {advice}.", archive.display());
+        return;
     }
-    println!("cargo:rustc-link-search=native={}", from.display());
-    println!("cargo:rustc-link-lib=static=export");
-}
-
-fn stop(archive: &Path) -> ! {
-    eprintln!(
-        "There is no {}: make it with `scripts/host-archive export`, or build with `--features model`.",
-        archive.display()
-    );
-    process::exit(1);
+    println!("cargo::rustc-link-search=native={}", from.display());
+    println!("cargo::rustc-link-lib=static=export");
 }

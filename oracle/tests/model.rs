@@ -48,6 +48,43 @@ fn kind_of() {
     assert_eq!(compared, 1_131_136);
 }
 
+/// Any mode but 0 is strict.
+#[test]
+fn other_modes() {
+    let mut compared = 0;
+    inputs::every_long(&mut |bytes| {
+        for mode in [2, 256, 0x1_0000, 0x8000_0000, u32::MAX] {
+            let (mut one, mut other) = ([7; 117], [8; 117]);
+            assert_eq!(abi::read_header(bytes, mode, &mut one), model::read_header(bytes, 1, &mut other));
+            assert_eq!(one, other, "{bytes:x?} {mode}");
+            compared += 1;
+        }
+    });
+    assert_eq!(compared, 5 * 288);
+}
+
+/// A slice and a buffer may begin anywhere: each place from 0 to 15 in a longer one, whose other bytes stay.
+#[test]
+fn at_any_place() {
+    let mut compared = 0;
+    inputs::good_headers(&mut |header| {
+        for place in 0..16 {
+            let range = place..place + inputs::HEADER;
+            let mut around = [0x99; inputs::HEADER + 16];
+            around[range.clone()].copy_from_slice(header);
+            let (mut words, mut other) = ([7; 117], [8; 117]);
+            assert_eq!(abi::read_header(&around[range.clone()], 1, &mut words), 0);
+            assert_eq!(model::read_header(header, 1, &mut other), 0);
+            assert_eq!(words, other);
+            let mut buf = [0x99; inputs::HEADER + 16];
+            assert_eq!(abi::write_header(&words, &mut buf[range]), 0);
+            assert_eq!(buf, around);
+            compared += 1;
+        }
+    });
+    assert_eq!(compared, 16 * 220);
+}
+
 /// Holds the items from each place of a list, and from behind it. How many.
 fn items(sectors: &[u32]) -> u64 {
     for at in (0..sectors.len() + 2).chain([usize::MAX]) {
