@@ -30,7 +30,11 @@ fn number_of(error: &Error) -> u32 {
 
 /// The mode of a number: 0 is permissive.
 pub fn mode_of(mode: u32) -> Validation {
-    if mode == 0 { Validation::Permissive } else { Validation::Strict }
+    if mode == 0 {
+        Validation::Permissive
+    } else {
+        Validation::Strict
+    }
 }
 
 /// What `Header::read_from` makes of these bytes: 0 and the words, or the refusal.

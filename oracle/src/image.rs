@@ -85,6 +85,9 @@ fn load(image: &[u8], header: &Header, n: usize) -> Result<Tables> {
     }
     let mut fat = Vec::with_capacity(n);
     for &id in &fat_sectors {
+        if fat.len() >= n {
+            break;
+        }
         fat.extend(entries_of(image, id, size)?);
     }
     fat.truncate(n);

@@ -93,7 +93,22 @@ pub fn every_bit(see: &mut impl FnMut(&[u8])) {
 
 /// Values at the edges of what a field of four bytes may hold.
 pub const EDGES: [u32; 16] = [
-    0, 1, 2, 3, 4, 109, 4095, 4096, 4097, 0x7fff_ffff, 0x8000_0000, REGULAR_LAST - 1, REGULAR_LAST, 0xffff_fffb, END, FREE,
+    0,
+    1,
+    2,
+    3,
+    4,
+    109,
+    4095,
+    4096,
+    4097,
+    0x7fff_ffff,
+    0x8000_0000,
+    REGULAR_LAST - 1,
+    REGULAR_LAST,
+    0xffff_fffb,
+    END,
+    FREE,
 ];
 
 /// Each edge in each field of four bytes.
@@ -151,7 +166,9 @@ fn to_be_cut() -> Vec<Bytes> {
             bytes[at] ^= 0x55;
             all.push(bytes);
         }
-        for (ids, place, entry) in [(LISTED, 0, END), (LISTED, 54, SPECIAL[0]), (108, 107, END), (0, 1, 7), (54, 108, 7)] {
+        for (ids, place, entry) in
+            [(LISTED, 0, END), (LISTED, 54, SPECIAL[0]), (108, 107, END), (0, 1, 7), (54, 108, 7)]
+        {
             let mut bytes = good(version, ids);
             put_listed(&mut bytes, place, entry);
             all.push(bytes);
@@ -405,8 +422,8 @@ pub const RANDOM_ITEMS: usize = 200_000;
 pub fn random_items(random: &mut Random, see: &mut impl FnMut(u32, u64, u64)) {
     for _ in 0..RANDOM_ITEMS {
         let kind = random.below(7) as u32;
-        let a = random.next() >> random.below(64);
-        let b = if random.once_in(4) { a } else { random.next() >> random.below(64) };
+        let a = random.bits() >> random.below(64);
+        let b = if random.once_in(4) { a } else { random.bits() >> random.below(64) };
         see(kind, a, b);
     }
 }

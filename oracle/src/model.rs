@@ -58,7 +58,11 @@ fn put32(bytes: &mut [u8], at: usize, number: u32) {
 
 /// The sector shift of a version.
 fn shift_of(major: u32) -> u32 {
-    if major == 3 { 9 } else { 12 }
+    if major == 3 {
+        9
+    } else {
+        12
+    }
 }
 
 /// Whether a list is regular ids and then nothing but FREE.
@@ -206,5 +210,9 @@ pub fn sector_text(kind: u32, a: u64, b: u64, out: &mut [u8; 32]) -> usize {
 
 /// A word, with its count before it where that is not 1.
 fn counted(count: u64, word: &str) -> String {
-    if count == 1 { word.to_string() } else { format!("{count} {word}") }
+    if count == 1 {
+        word.to_string()
+    } else {
+        format!("{count} {word}")
+    }
 }

@@ -26,13 +26,13 @@ impl Random {
     fn from_seed(seed: u64, name: &str) -> Random {
         let mut random = Random(seed);
         for byte in name.bytes() {
-            random.0 = random.next() ^ u64::from(byte);
+            random.0 = random.bits() ^ u64::from(byte);
         }
         random
     }
 
     /// The next 64 bits.
-    pub fn next(&mut self) -> u64 {
+    pub fn bits(&mut self) -> u64 {
         self.0 = self.0.wrapping_add(0x9e37_79b9_7f4a_7c15);
         let mut z = self.0;
         z = (z ^ (z >> 30)).wrapping_mul(0xbf58_476d_1ce4_e5b9);
@@ -42,12 +42,12 @@ impl Random {
 
     /// The next 32 bits.
     pub fn word(&mut self) -> u32 {
-        (self.next() >> 32) as u32
+        (self.bits() >> 32) as u32
     }
 
     /// A number below `end`, which is not 0.
     pub fn below(&mut self, end: usize) -> usize {
-        (self.next() % end as u64) as usize
+        (self.bits() % end as u64) as usize
     }
 
     /// True once in `times`.
@@ -63,7 +63,7 @@ impl Random {
     /// Random bytes.
     pub fn fill(&mut self, bytes: &mut [u8]) {
         for part in bytes.chunks_mut(8) {
-            let eight = self.next().to_le_bytes();
+            let eight = self.bits().to_le_bytes();
             part.copy_from_slice(&eight[..part.len()]);
         }
     }

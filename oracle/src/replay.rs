@@ -113,7 +113,9 @@ fn damaged() -> Vec<Bytes> {
         bytes[at] ^= 1;
         all.push(bytes);
     }
-    for (at, number) in [(28, 0xfeff), (28, 0), (26, 2), (26, 5), (26, 0x103), (30, 12), (30, 0x109), (32, 5), (32, 0x106)] {
+    for (at, number) in
+        [(28, 0xfeff), (28, 0), (26, 2), (26, 5), (26, 0x103), (30, 12), (30, 0x109), (32, 5), (32, 0x106)]
+    {
         all.push(short(3, at, number));
     }
     for (at, number) in [(28, 0xffff), (26, 0), (26, 3), (30, 9), (30, 0), (32, 7)] {

@@ -33,7 +33,15 @@ fn listed(bytes: &[u8], place: usize) -> u32 {
 /// What the Rust must answer to a slice that is shorter than a header: the first cause whose bytes it read.
 fn on_a_cut(bytes: &[u8], mode: u32) -> u32 {
     let model = inputs::good(if bytes.get(26) == Some(&4) { 4 } else { 3 }, 0);
-    let checks = [(2, 0..8, 8), (3, 28..30, 30), (4, 26..28, 30), (5, 30..32, 32), (6, 32..34, 34), (7, 40..44, 44), (8, 56..60, 60)];
+    let checks = [
+        (2, 0..8, 8),
+        (3, 28..30, 30),
+        (4, 26..28, 30),
+        (5, 30..32, 32),
+        (6, 32..34, 34),
+        (7, 40..44, 44),
+        (8, 56..60, 60),
+    ];
     for (number, range, read) in checks {
         if bytes.len() < read {
             return 1;

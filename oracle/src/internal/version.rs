@@ -15,12 +15,20 @@ impl Version {
 
     /// The major number.
     pub fn number(self) -> u16 {
-        if self == Version::V3 { 3 } else { 4 }
+        if self == Version::V3 {
+            3
+        } else {
+            4
+        }
     }
 
     /// The exponent of the sector length.
     pub fn sector_shift(self) -> u16 {
-        if self == Version::V3 { 9 } else { 12 }
+        if self == Version::V3 {
+            9
+        } else {
+            12
+        }
     }
 
     /// The sector length in bytes.
