@@ -1,0 +1,84 @@
+//! The functions of the archive `libexport.a`, or of the model with the feature `model`.
+//!
+//! A header is 117 words: the version's number, directory sectors, FAT sectors, first directory, first
+//! MiniFAT, MiniFAT sectors, first DIFAT, DIFAT sectors, and the 109 entries of the list.
+
+/// A header as numbers.
+pub type Words = [u32; 117];
+
+/// Places of a header's numbers in its words.
+pub const VERSION: usize = 0;
+pub const DIRECTORY_SECTORS: usize = 1;
+pub const FAT_SECTORS: usize = 2;
+pub const FIRST_DIRECTORY: usize = 3;
+pub const FIRST_MINIFAT: usize = 4;
+pub const MINIFAT_SECTORS: usize = 5;
+pub const FIRST_DIFAT: usize = 6;
+pub const DIFAT_SECTORS: usize = 7;
+pub const LIST: usize = 8;
+
+/// What stands beside a refusal: version 3, and all other numbers 0.
+pub const REFUSED: Words = refused();
+
+const fn refused() -> Words {
+    let mut words = [0; 117];
+    words[VERSION] = 3;
+    words
+}
+
+/// Kinds of an item of `prettify`.
+pub const NONE: u32 = 0;
+pub const FREE: u32 = 1;
+pub const END: u32 = 2;
+pub const FAT: u32 = 3;
+pub const DIFAT: u32 = 4;
+pub const RANGE: u32 = 5;
+
+#[cfg(feature = "model")]
+pub use crate::model::{kind_of, prettify, read_header, sector_text, write_header};
+
+#[cfg(not(feature = "model"))]
+pub use archive::{kind_of, prettify, read_header, sector_text, write_header};
+
+#[cfg(not(feature = "model"))]
+mod archive {
+    use super::Words;
+
+    extern "C" {
+        fn rasuvelk_read_header(bytes: *const u8, len: usize, mode: u32, words: *mut Words) -> u32;
+        fn rasuvelk_write_header(words: *const Words, buf: *mut u8, len: usize) -> u32;
+        fn rasuvelk_kind_of(entry: u32) -> u32;
+        fn rasuvelk_prettify(sectors: *const u32, len: usize, at: usize, item: *mut [u64; 3]) -> u32;
+        fn rasuvelk_sector_text(kind: u32, a: u64, b: u64, out: *mut [u8; 32]) -> usize;
+    }
+
+    /// Reads a header; 0, or the number of the refusal. Mode 0 is permissive.
+    pub fn read_header(bytes: &[u8], mode: u32, words: &mut Words) -> u32 {
+        // SAFETY: the pointer and the length are those of one live slice; `words` is whole and lent alone.
+        unsafe { rasuvelk_read_header(bytes.as_ptr(), bytes.len(), mode, words) }
+    }
+
+    /// Writes a header; 0, or the number of the refusal.
+    pub fn write_header(words: &Words, buf: &mut [u8]) -> u32 {
+        // SAFETY: as above, and the buffer is lent alone.
+        unsafe { rasuvelk_write_header(words, buf.as_mut_ptr(), buf.len()) }
+    }
+
+    /// The kind of an entry, from 0 for regular to 5 for FREE.
+    pub fn kind_of(entry: u32) -> u32 {
+        // SAFETY: no memory is lent.
+        unsafe { rasuvelk_kind_of(entry) }
+    }
+
+    /// The first item of `sectors[at..]`: its kind; its two numbers and the place past it in `item`.
+    pub fn prettify(sectors: &[u32], at: usize, item: &mut [u64; 3]) -> u32 {
+        // SAFETY: the pointer and the length are those of one live slice; `item` is whole and lent alone.
+        unsafe { rasuvelk_prettify(sectors.as_ptr(), sectors.len(), at, item) }
+    }
+
+    /// The text of an item, with zeros after it; its length.
+    pub fn sector_text(kind: u32, a: u64, b: u64, out: &mut [u8; 32]) -> usize {
+        // SAFETY: `out` is whole and lent alone.
+        unsafe { rasuvelk_sector_text(kind, a, b, out) }
+    }
+}

@@ -1,0 +1,143 @@
+//! What the Rust of cfb answers, in the words and numbers of the specification.
+
+use crate::abi::{self, Words};
+use crate::internal::consts::{self, Sector};
+use crate::internal::{Header, Validation, Version};
+use std::io::{Error, ErrorKind};
+
+/// How the Rust's messages begin, and the refusal that each is.
+const CAUSES: [(&str, u32); 8] = [
+    ("Invalid CFB file (wrong magic number)", 2),
+    ("Invalid CFB byte order mark", 3),
+    ("CFB version ", 4),
+    ("Incorrect sector shift", 5),
+    ("Incorrect mini sector shift", 6),
+    ("Invalid number of directory sectors", 7),
+    ("Incorrect mini stream cutoff", 8),
+    ("Initial DIFAT array refers to invalid sector", 9),
+];
+
+/// The refusal that an error of the header's reader is.
+fn number_of(error: &Error) -> u32 {
+    if error.kind() == ErrorKind::UnexpectedEof {
+        return 1;
+    }
+    let message = error.to_string();
+    let cause = CAUSES.iter().find(|cause| message.starts_with(cause.0));
+    assert_eq!(error.kind(), ErrorKind::InvalidData, "{message}");
+    cause.unwrap_or_else(|| panic!("no refusal begins so: {message}")).1
+}
+
+/// The mode of a number: 0 is permissive.
+pub fn mode_of(mode: u32) -> Validation {
+    if mode == 0 {
+        Validation::Permissive
+    } else {
+        Validation::Strict
+    }
+}
+
+/// What `Header::read_from` makes of these bytes: 0 and the words, or the refusal.
+pub fn read_header(bytes: &[u8], mode: u32) -> (u32, Words) {
+    let mut left = bytes;
+    match Header::read_from(&mut left, mode_of(mode)) {
+        Ok(header) => (0, words_of(&header)),
+        Err(error) => (number_of(&error), abi::REFUSED),
+    }
+}
+
+/// The words of a header.
+pub fn words_of(header: &Header) -> Words {
+    let mut words = abi::REFUSED;
+    words[abi::VERSION] = header.version.number().into();
+    words[abi::DIRECTORY_SECTORS] = header.num_dir_sectors;
+    words[abi::FAT_SECTORS] = header.num_fat_sectors;
+    words[abi::FIRST_DIRECTORY] = header.first_dir_sector;
+    words[abi::FIRST_MINIFAT] = header.first_minifat_sector;
+    words[abi::MINIFAT_SECTORS] = header.num_minifat_sectors;
+    words[abi::FIRST_DIFAT] = header.first_difat_sector;
+    words[abi::DIFAT_SECTORS] = header.num_difat_sectors;
+    words[abi::LIST..].copy_from_slice(&header.initial_difat_entries);
+    words
+}
+
+/// The header of these words, if the version is one.
+pub fn header_of(words: &Words) -> Option<Header> {
+    let number = u16::try_from(words[abi::VERSION]).ok()?;
+    Some(Header {
+        version: Version::from_number(number)?,
+        num_dir_sectors: words[abi::DIRECTORY_SECTORS],
+        num_fat_sectors: words[abi::FAT_SECTORS],
+        first_dir_sector: words[abi::FIRST_DIRECTORY],
+        first_minifat_sector: words[abi::FIRST_MINIFAT],
+        num_minifat_sectors: words[abi::MINIFAT_SECTORS],
+        first_difat_sector: words[abi::FIRST_DIFAT],
+        num_difat_sectors: words[abi::DIFAT_SECTORS],
+        initial_difat_entries: words[abi::LIST..].try_into().unwrap(),
+    })
+}
+
+/// What `Header::write_to` does with this buffer: whether it wrote a whole header.
+pub fn write_header(words: &Words, buf: &mut [u8]) -> bool {
+    let mut left = buf;
+    match header_of(words).unwrap().write_to(&mut left) {
+        Ok(()) => true,
+        Err(error) => {
+            assert_eq!(error.kind(), ErrorKind::WriteZero);
+            false
+        }
+    }
+}
+
+/// The kind of an entry by the constants of consts.rs.
+pub fn kind_of(entry: u32) -> u32 {
+    match entry {
+        consts::FREE_SECTOR => 5,
+        consts::END_OF_CHAIN => 4,
+        consts::FAT_SECTOR => 3,
+        consts::DIFAT_SECTOR => 2,
+        consts::INVALID_SECTOR => 1,
+        _ => {
+            assert!(entry <= consts::MAX_REGULAR_SECTOR);
+            0
+        }
+    }
+}
+
+/// An item of `prettify`: kind, two numbers, text.
+#[derive(Clone, Debug, PartialEq, Eq)]
+pub struct Item {
+    pub kind: u32,
+    pub a: u64,
+    pub b: u64,
+    pub text: String,
+}
+
+/// All items of `prettify`.
+pub fn prettify(sectors: &[u32]) -> Vec<Item> {
+    consts::prettify(sectors).iter().map(item_of).collect()
+}
+
+fn item_of(sector: &Sector) -> Item {
+    let (kind, a, b) = match *sector {
+        Sector::Free(count) => (abi::FREE, count as u64, 0),
+        Sector::End => (abi::END, 1, 0),
+        Sector::Fat(count) => (abi::FAT, count as u64, 0),
+        Sector::Difat(count) => (abi::DIFAT, count as u64, 0),
+        Sector::Range(first, last) => (abi::RANGE, first.into(), last.into()),
+    };
+    Item { kind, a, b, text: format!("{sector:?}") }
+}
+
+/// The text of an item, where there is such an item.
+pub fn sector_text(kind: u32, a: u64, b: u64) -> Option<String> {
+    let sector = match kind {
+        abi::FREE => Sector::Free(a.try_into().ok()?),
+        abi::END => Sector::End,
+        abi::FAT => Sector::Fat(a.try_into().ok()?),
+        abi::DIFAT => Sector::Difat(a.try_into().ok()?),
+        abi::RANGE => Sector::Range(a.try_into().ok()?, b.try_into().ok()?),
+        _ => return None,
+    };
+    Some(format!("{sector:?}"))
+}

@@ -1,0 +1,38 @@
+//! The Rust of cfb 0.15.0, unchanged, beside the compiled library and a model of the specification.
+//!
+//! - `internal` (only where the Rust is at hand, `cfg(oracle)`): the four files over stand-ins of ours.
+//! - `asked`: what the four files answer, in the numbers of the specification.
+//! - `abi`: the functions of the archive, or of the model with the feature `model`.
+//! - `model`: the same functions, written from the specification alone.
+//! - `replay` (`cfg(oracle)`): the fixed list of answers for a program that has no Rust at hand.
+//! - `inputs`, `random`: headers and lists to compare on, the same at every run.
+
+#[cfg(oracle)]
+#[macro_use]
+mod stops;
+#[cfg(oracle)]
+mod numbers;
+#[cfg(oracle)]
+mod set;
+
+#[cfg(oracle)]
+pub mod asked;
+#[cfg(oracle)]
+pub mod image;
+#[cfg(oracle)]
+pub mod internal;
+#[cfg(oracle)]
+pub mod replay;
+
+pub mod abi;
+pub mod inputs;
+pub mod model;
+pub mod random;
+
+// The four files ask for `fnv::FnvHashSet` and, from the crate's root, for the two traits.
+#[cfg(oracle)]
+extern crate self as fnv;
+#[cfg(oracle)]
+pub use numbers::{ReadLeNumber, WriteLeNumber};
+#[cfg(oracle)]
+pub use set::FnvHashSet;
