@@ -40,12 +40,12 @@ unfoldable pub ascend : ℕ → List Row → Bool
 ascend low [] = true
 ascend low (r ∷ rs) = both (ltb low (r .no)) (ascend (r .no) rs)
 
--- where the first test that holds stands beside k, k has a cause
+-- each test, where it is the first that holds, gives the cause of its number
 abbrev pub Explained : (ℕ → Type 0) → List Row → Type 0
 Explained C [] = Unit
 Explained C (r ∷ rs) = (r .holds ≡ true → C (r .no)) × (r .holds ≡ false → Explained C rs)
 
--- what a row's test tells where it holds, and what the rows after it tell where it fails
+-- one row of an explanation: what its test gives where it holds, and the rows after it where it fails
 infixr 20 _▸_
 _▸_ : {A B : Type 0} → A → B → A × B
 a ▸ b = (a, b)
@@ -77,8 +77,7 @@ least low (r ∷ rs) k a t =
     at false true e t up rest = omega (arith, rest t)
     at false false e t up rest = omega (arith, rest t)
 
--- a table whose numbers ascend, and a cause for each number: the test beside a number holds where it has its cause,
--- and the first test that holds is explained by one
+-- a table whose numbers ascend judges by the causes C: a cause makes its test hold, and the first test that holds gives its cause
 pub record Judged (rs : List Row) (C : ℕ → Type 0) : Type 0 where
   pub ascends : ascend 0 rs ≡ true
   pub tested : (k : ℕ) → C k → testOf rs k ≡ true
@@ -110,7 +109,7 @@ module _ {rs : List Row} {C : ℕ → Type 0} (j : Judged rs C) where
       all : ((i : ℕ) → C i → ⊥) → refusal rs ≡ 0
       all n = ⊎-elim (λ (z : refusal rs ≡ 0). z) (λ (g : refusal rs ≢ 0). absurd (n (refusal rs) (explained C rs (j .told) g))) (same-or (refusal rs) 0)
 
--- the ids that a list begins with are sector numbers, and the entry after them is none
+-- the ids that a list begins with are sector numbers
 ids-low : (xs : List ℕ) (i : ℕ) → i < idsIn xs → getD xs i 0 ≤ maxRegular
 unfolding idsIn
 ids-low [] i h = absurd (omega arith)
@@ -121,6 +120,7 @@ ids-low (x ∷ xs) i h = at (leb x maxRegular) refl i h (ids-low xs)
     at true e (suc i) h rest = rest i (omega arith)
     at false e i h rest = absurd (omega arith)
 
+-- the entry after those ids is no sector number
 ids-high : (xs : List ℕ) → idsIn xs < length xs → maxRegular < getD xs (idsIn xs) 0
 unfolding idsIn
 ids-high [] h = absurd (omega arith)
@@ -131,13 +131,14 @@ ids-high (x ∷ xs) h = at (leb x maxRegular) refl h (ids-high xs)
     at true e h rest = rest (omega arith)
     at false e h rest = leb-false x maxRegular e
 
--- a list that is all FREE, and one that is not
+-- in a list that passes as FREE every entry is
 free-each : (xs : List ℕ) → allFree xs ≡ true → (i : ℕ) → i < length xs → getD xs i 0 ≡ freeSector
 unfolding allFree
 free-each [] t i h = absurd (omega arith)
 free-each (x ∷ xs) t zero h = eqb-true x freeSector (both-left (eqb x freeSector) (allFree xs) t)
 free-each (x ∷ xs) t (suc i) h = free-each xs (both-right (eqb x freeSector) (allFree xs) t) i (omega arith)
 
+-- in a list that does not, some entry is not
 free-not : (xs : List ℕ) → allFree xs ≡ false → (i : ℕ) × (i < length xs) × (getD xs i 0 ≢ freeSector)
 unfolding allFree
 free-not [] f = absurd (not-both refl f)
@@ -148,7 +149,7 @@ free-not (x ∷ xs) f = at (eqb x freeSector) refl f (free-not xs)
     at true e f rest = let r = rest f in (suc (r .0), omega (arith, r .1), r .2)
     at false e f rest = (0, omega arith, eqb-false x freeSector e)
 
--- the list's test, and the two ways to say what it tests
+-- a list that passes the test is sector numbers and then FREE
 good : (xs : List ℕ) → idsThenFree xs ≡ true → GoodList xs
 unfolding idsThenFree
 good xs t =
@@ -162,6 +163,7 @@ good xs t =
           ∙ free-each (drop (idsIn xs) xs) t (i - idsIn xs) (simp length-drop (omega arith));
     }
 
+-- a list that fails it is broken in one of document 01's two ways
 broken : (xs : List ℕ) → idsThenFree xs ≡ false → Broken xs
 unfolding idsThenFree
 broken xs f = at (free-not (drop (idsIn xs) xs) f)
@@ -180,6 +182,7 @@ broken xs f = at (free-not (drop (idsIn xs) xs) f)
         inl (record { place = n; within = omega arith; above = ids-high xs (omega arith); other = d; before = λ j h. omega (arith, ids-low xs j h) }))
         (same-or (getD xs n 0) freeSector)
 
+-- no list is both
 never : (xs : List ℕ) → Broken xs → GoodList xs → ⊥
 never xs (inl s) g =
     ⊎-elim (λ (l : s .place < g .count). omega (arith, g .ids (s .place) l)) (λ (r : g .count ≤ s .place). s .other (g .free (s .place) r (s .within))) (below-or (s .place) (g .count))
@@ -201,10 +204,11 @@ entries-narrow b small i h =
 pub special-range : (e : ℕ) → e < 2 ^ 32 → ((maxRegular < e) × (e ≢ freeSector)) ↔ ((invalidSector ≤ e) × (e ≤ endOfChain))
 special-range e h = (λ p. omega arith, λ p. omega arith)
 
--- the list's row, from the words to the test and back
+-- a broken list fails the test
 broken-tested : (xs : List ℕ) → Broken xs → not (idsThenFree xs) ≡ true
 broken-tested xs w = ⊎-elim (λ (t : idsThenFree xs ≡ true). absurd (never xs w (good xs t))) (λ (f : idsThenFree xs ≡ false). rw f) (true-or (idsThenFree xs))
 
+-- and one that fails is broken
 broken-told : (xs : List ℕ) → not (idsThenFree xs) ≡ true → Broken xs
 broken-told xs t = broken xs (not-true (idsThenFree xs) t)
 
@@ -221,17 +225,18 @@ either-right : (a b : Bool) → b ≡ true → either a b ≡ true
 either-right true b t = refl
 either-right false b t = t
 
--- an unknown major version is neither 3 nor 4, and a known one is one of them
+-- an unknown major version is neither 3 nor 4
 unknown-told : (n : ℕ) → unknown n ≡ true → (n ≢ 3) × (n ≢ 4)
 unfolding unknown
 unknown-told n t = (differ n 3 (both-left (not (eqb n 3)) _ t), differ n 4 (both-right (not (eqb n 3)) _ t))
 
+-- a known one is 3 or 4
 known : (n : ℕ) → unknown n ≡ false → (n ≡ 3) ⊎ (n ≡ 4)
 unfolding unknown
 known n f =
     ⊎-elim inl (λ (a : n ≢ 3). ⊎-elim inr (λ (o : n ≢ 4). absurd (not-both (both-true (unlike n 3 a) (unlike n 4 o)) f)) (same-or n 4)) (same-or n 3)
 
--- another shift than the version's, from the test to the words
+-- a known version with another shift than its own
 shift-told : (major shift : ℕ) → unknown major ≡ false → not (eqb shift (shiftOf (versionOf major))) ≡ true
     → ((major ≡ 3) × (shift ≢ 9)) ⊎ ((major ≡ 4) × (shift ≢ 12))
 unfolding versionOf
@@ -248,11 +253,12 @@ version-3 : (v : Version) → majorOf v ≡ 3 → v ≡ V3
 version-3 V3 e = refl
 version-3 V4 e = absurd (omega arith)
 
--- directory sectors counted in version 3, from the words to the test and back
+-- strict, version 3 and directory sectors counted make the test hold
 dirs-tested : (m : Validation) (major dirs : ℕ) → m ≡ Strict → major ≡ 3 → dirs ≢ 0 → countsDirs m major dirs ≡ true
 unfolding countsDirs
 dirs-tested m major dirs s e n = rw (s, e) (unlike dirs 0 n)
 
+-- and where it holds, it is for these
 dirs-told : (m : Validation) (major dirs : ℕ) → countsDirs m major dirs ≡ true → (m ≡ Strict) × (major ≡ 3) × (dirs ≢ 0)
 unfolding countsDirs
 dirs-told m major dirs t =
@@ -288,6 +294,7 @@ module _ (m : Validation) (b : List ℕ) where
       (λ t. Cause.cutoff (differ _ _ t)) ▸ λ f8.
       (λ t. Cause.list (broken-told (listOf b) t)) ▸ λ f9. tt
 
+  -- the reader's table judges by the reader's causes
   read-judged : Judged (readRows m b) (Cause m b)
   unfolding ascend readRows
   read-judged = record { ascends = refl; tested = read-tested; told = read-told }
@@ -319,6 +326,7 @@ module _ (h : Header) (n : ℕ) where
       (λ t. let d = dirs-told Strict _ _ t in WriteCause.counted (version-3 _ (d .1)) (d .2)) ▸ λ f2.
       (λ t. ⊎-elim (λ l. WriteCause.no-list (broken-told (h .list) l)) (λ e. WriteCause.free-start (eqb-true _ _ e)) (either-cases _ _ t)) ▸ λ f3. tt
 
+  -- the writer's table judges by the writer's causes
   write-judged : Judged (writeRows h n) (WriteCause h n)
   unfolding ascend writeRows
   write-judged = record { ascends = refl; tested = write-tested; told = write-told }
@@ -358,7 +366,7 @@ read-apart = told-apart readNumber answer same
     same ReadVerdict.Cutoff = refl
     same ReadVerdict.Entries = refl
 
--- and two of the writer
+-- two answers of the writer with one number are one answer
 write-apart : (v w : WriteVerdict) → writeNumber v ≡ writeNumber w → v ≡ w
 write-apart = told-apart writeNumber answer same
   where

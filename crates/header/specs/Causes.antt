@@ -33,7 +33,7 @@ pub record UsedAfter (xs : List ℕ) : Type 0 where
 abbrev pub Broken : List ℕ → Type 0
 Broken xs = SpecialBefore xs ⊎ UsedAfter xs
 
--- the same list from its good side (MS-CFB 2.5.1): some sector numbers, and every entry from there on FREE
+-- the same list from its good side (MS-CFB 2.5): some sector numbers, and every entry from there on FREE
 pub record GoodList (xs : List ℕ) : Type 0 where
   pub count : ℕ
   pub within : count ≤ length xs
