@@ -92,3 +92,16 @@ entry-stored b o xs i h fits =
 pub rest-free : (xs : List ℕ) (n : ℕ) → n ≡ idsIn xs → allFree (take (length xs - n) (drop n xs)) ≡ idsThenFree xs
 unfolding idsThenFree
 rest-free xs n e = rw (take-all (length xs - n) (drop n xs) (simp length-drop (omega arith)), e)
+
+-- the loop that stores the entries: none yet, one more, all of them
+pub entries-none : (b : List ℕ) (o : ℕ) (xs : List ℕ) → b ≡ splice b o (listBytes (take 0 xs))
+unfolding listBytes
+entries-none b o xs = sym (splice-nil b o)
+
+pub entries-more : (b now next : List ℕ) (o at : ℕ) (xs : List ℕ) (i : ℕ) → i < length xs → o + 4 * length xs ≤ length b → at ≡ o
+    → now ≡ splice b o (listBytes (take i xs)) → next ≡ splice now (at + 4 * i) (digits 4 (getD xs i 0)) → next ≡ splice b o (listBytes (take (i + 1) xs))
+entries-more b now next o at xs i h fits e f g =
+    g ∙ ap (λ (k : ℕ). splice now (k + 4 * i) (digits 4 (getD xs i 0))) e ∙ ap (λ (l : List ℕ). splice l (o + 4 * i) (digits 4 (getD xs i 0))) f ∙ entry-stored b o xs i h fits
+
+pub entries-all : (b now : List ℕ) (o : ℕ) (xs : List ℕ) (i : ℕ) → length xs ≤ i → now ≡ splice b o (listBytes (take i xs)) → now ≡ splice b o (listBytes xs)
+entries-all b now o xs i h e = e ∙ ap (λ (l : List ℕ). splice b o (listBytes l)) (take-all i xs h)

@@ -60,9 +60,10 @@ module _ (m : Validation) (b : List ℕ) where
 -- a refusal with its number, and a header that is read
 pub says-no : (m : Validation) (b : List ℕ) (v : ReadVerdict) (r : Read) → r ≡ record { verdict = v; header = none } → (readNumber v ≡ 0 → ⊥) → readNumber v ≡ readNo m b → ReadSays b m r
 says-no m b v r e n k =
-    record
-    { number = ap (λ (x : Read). readNumber (x .verdict)) e ∙ k
-    ; header = ap (λ (x : Read). x .header) e ∙ rw (ne-eqb (readNo m b) 0 (λ z. n (k ∙ z))) }
+    record {
+      number = ap (λ (x : Read). readNumber (x .verdict)) e ∙ k;
+      header = ap (λ (x : Read). x .header) e ∙ rw (ne-eqb (readNo m b) 0 (λ z. n (k ∙ z)));
+    }
 
 pub says-yes : (m : Validation) (b : List ℕ) (h : Header) → h ≡ headerOf b → 0 ≡ readNo m b → ReadSays b m (record { verdict = Accepted; header = h })
 says-yes m b h e k = record { number = k; header = e ∙ rw (eq-eqb (readNo m b) 0 (sym k)) }

@@ -1,15 +1,19 @@
 -- The rules of the table of fields, each from one computed test over the whole table. Assumes nothing.
-use Prim.Native.Nat.{ℕ, _+_, _≤_, _<_}
-use mathlib.Core.Path.{_≡_, refl, sym, ap}
+use Prim.Native.Nat.{ℕ, _+_, _-_, _≤_, _<_}
+use mathlib.Core.Path.{_≡_, refl, sym, ap, _∙_}
 use mathlib.Core.Bool.{Bool, true, false, not}
-use mathlib.Core.List.{List}
+use mathlib.Core.List.{List, [], _++_}
 use mathlib.Core.Logic.{_⊎_, inl, inr, ⊎-elim}
 use native.Mathlib.Omega.{arith}
 use borrow.Author.Tests.{eqb-true, leb-true, ltb-true}
+use borrow.Rule.Slice.PartMut.{putMid}
 use lib.Dec.{eqb, leb, ltb}
+use lib.ListN.{length, take, drop, replicate, length-take, length-drop, length-replicate, drop-of-length-le}
 use Rattle.lists.specs.Lists.{both, either, every, splice}
 use Rattle.lists.proofs.Cases.{both-left, either-cases, every-at, not-both}
+use Rattle.lists.proofs.Splice.{putMid-splice}
 use Rattle.words.specs.Words.{le, digits}
+use Rattle.consts.specs.Consts.{signature}
 use Rattle.header.specs.Fields.{offsetOf, widthOf, holdsNumber, numberAt}
 
 -- every field ends within the first 80 bytes
@@ -40,6 +44,15 @@ number-width i h =
 pub number-wide : (i : ℕ) → holdsNumber i ≡ true → (widthOf i ≡ 2 → ⊥) → widthOf i ≡ 4
 number-wide i h n = ⊎-elim (λ (e : widthOf i ≡ 2). absurd (n e)) (λ (e : widthOf i ≡ 4). e) (number-width i h)
 
+-- a part that was lent and came back as zeros
+lent-zeros : (b last : List ℕ) (o w : ℕ) → o + w ≤ length b → last ≡ replicate (length (take (o + w - o) (drop o b))) 0
+    → putMid o (o + w - o) b last ≡ splice b o (replicate w 0)
+lent-zeros b last o w fits e =
+    let k : o + w - o ≡ w = omega arith in
+    let l : length (take (o + w - o) (drop o b)) ≡ w = simp (length-take, length-drop) (omega arith) in
+    let z : last ≡ replicate w 0 = e ∙ ap (λ (n : ℕ). replicate n 0) l in
+    rw (k, z) (putMid-splice o w b (replicate w 0) (length-replicate w 0))
+
 -- a field with a number lies within a header
 pub number-fits : (i l w : ℕ) → holdsNumber i ≡ true → 512 ≤ l → widthOf i ≡ w → offsetOf i + w ≤ l
 number-fits i l w h whole e = let f : offsetOf i + widthOf i ≤ 80 = field-ends i (number-below i h) in rw (← e) (omega arith)
@@ -52,3 +65,13 @@ number-is b i w e = ap (λ (k : ℕ). le k b (offsetOf i)) (sym e)
 -- and the bytes that a store at that width puts
 pub stored-is : (b : List ℕ) (i w v : ℕ) → widthOf i ≡ w → splice b (offsetOf i) (digits w v) ≡ splice b (offsetOf i) (digits (widthOf i) v)
 stored-is b i w v e = ap (λ (k : ℕ). splice b (offsetOf i) (digits k v)) (sym e)
+
+-- a field that was lent as a part and came back as zeros
+pub zeros-stored : (b last : List ℕ) (i : ℕ) → i < 18 → 512 ≤ length b → last ≡ replicate (length (take (offsetOf i + widthOf i - offsetOf i) (drop (offsetOf i) b))) 0
+    → putMid (offsetOf i) (offsetOf i + widthOf i - offsetOf i) b last ≡ splice b (offsetOf i) (replicate (widthOf i) 0)
+zeros-stored b last i h whole e = lent-zeros b last (offsetOf i) (widthOf i) (omega (arith, field-ends i h)) e
+
+-- the signature's field, lent as a part and copied over
+pub signature-stored : (b last : List ℕ) → 512 ≤ length b → last ≡ splice (take 8 b) 0 signature → last ++ drop 8 b ≡ splice b 0 signature
+unfolding splice
+signature-stored b last h e = rw (e, drop-of-length-le (take 8 b) {i = 8} (simp length-take (omega arith)))

@@ -25,8 +25,9 @@ pub(crate) fn read_list(b: &[u8]) -> [u32; 109]
 }
 
 // Stores the 109 entries.
-pub(crate) fn put_list(buf: &mut [u8], list: &[u32; 109])
+pub(crate) fn put_list(buf: &mut [u8], list: &[u32])
     requires { ⌜ 512 ≤ length (now buf) ⌝ }
+    requires { ⌜ length (now list) ≡ 109 ⌝ }
     ensures { λ _. ⌜ now (buf .exit) ≡ splice (now (buf .entry)) (offsetOf entriesAt) (listBytes (now (list .entry))) ⌝ }
 {
     let f = FIELDS[ENTRIES];

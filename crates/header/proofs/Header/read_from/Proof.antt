@@ -17,15 +17,6 @@ use Rattle.header.proofs.Reading.{gives-1, gives-2, gives-fixed, gives-
 use borrow.Author.Needs.{needs}
 use Rattle.header.proofs.Header.read_from.Statement.{statement}
 use Rattle.header.proofs.Header.read_from.Tie as tie
-use Rattle.header.proofs.Header.read_from.Reads as reads
-use Rattle.header.proofs.Header.read_from.Lts as lts
-use Rattle.header.proofs.ReadVerdict.number.Reads as number-reads
-use Rattle.header.proofs.content.content.Reads as content-reads
-use Rattle.header.proofs.content.refused.Reads as refused-reads
-use Rattle.header.proofs.entries.ids_then_free.Reads as ids-then-free-reads
-use Rattle.header.proofs.fields.signed.Reads as signed-reads
-use Rattle.header.proofs.judge.judge.Reads as judge-reads
-use Rattle.header.proofs.judge.judged_by.Reads as judged-by-reads
 
 -- what is known once the signature is passed
 abbrev bytes : tie.Else2 → List ℕ
@@ -55,73 +46,57 @@ listed : (c : tie.After-ids-then-free) → c .ids-then-free .result ≡ idsThenF
 unfolding headerOf
 listed c = c .ids-then-free .ensures ∙ ap (λ (h : Header). idsThenFree (h .list)) (c .before .before .before .content .ensures)
 
--- src/lib.rt:176:13
 refused-requires : tie.Need-refused-requires
 refused-requires c κs = search needs
 
--- src/lib.rt:176:13
 returns : tie.Need-returns
 returns c = says-no _ _ Short _ (c .refused .ensures) (omega arith) (gives-1 _ _ (c .before .if1 .taken))
 
--- src/lib.rt:178:13
 signed-requires : tie.Need-signed-requires
 signed-requires c κs = search needs
 
--- src/lib.rt:179:13
 refused-requires-2 : tie.Need-refused-requires-2
 refused-requires-2 c κs = search needs
 
--- src/lib.rt:179:13
 returns-2 : tie.Need-returns-2
 returns-2 c = says-no _ _ Signature _ (c .refused2 .ensures) (omega arith) (gives-2 _ _ (c .before .before .before .if1 .left) (sym (c .before .before .signed .ensures) ∙ not-true _ (c .before .if2 .taken)))
 
--- src/lib.rt:181:29
 judged-by-requires : tie.Need-judged-by-requires
 judged-by-requires c κs = search needs
 
--- src/lib.rt:181:13
 judge-requires : tie.Need-judge-requires
 judge-requires c κs = search needs
 
--- src/lib.rt:182:12
 number-requires : tie.Need-number-requires
 number-requires c κs = search needs
 
--- src/lib.rt:183:13
 refused-requires-3 : tie.Need-refused-requires-3
 refused-requires-3 c κs = search needs
 
--- src/lib.rt:183:13
 returns-3 : tie.Need-returns-3
 returns-3 c =
     let j = c .before .before .before in
     let refuses : readNumber (j .judge .result) ≡ 0 → ⊥ = λ z. c .before .if3 .taken (c .before .before .number .ensures ∙ z) in
     says-no _ _ (j .judge .result) _ (c .refused3 .ensures) refuses (gives-fixed _ _ (whole (j .before .before)) (signed (j .before .before)) _ (judged j) refuses)
 
--- src/lib.rt:185:13
 content-requires : tie.Need-content-requires
 content-requires c κs = search needs
 
--- src/lib.rt:187:27
 slice-aggregate-ids-then-free : tie.Need-slice-aggregate-ids-then-free
 slice-aggregate-ids-then-free c = search needs
 
--- src/lib.rt:187:13
 ids-then-free-requires : tie.Need-ids-then-free-requires
 ids-then-free-requires c κs = search needs
 
--- src/lib.rt:188:13
 refused-requires-4 : tie.Need-refused-requires-4
 refused-requires-4 c κs = search needs
 
--- src/lib.rt:188:13
 returns-4 : tie.Need-returns-4
 returns-4 c =
     let p = c .before .before .before .before .before .before in
     says-no _ _ Entries _ (c .refused4 .ensures) (omega arith)
     (gives-9 _ _ (whole (at-signed p)) (signed (at-signed p)) (passed p) (sym (listed (c .before .before)) ∙ not-true _ (c .before .if4 .taken)))
 
--- src/lib.rt:172:5
 returns-5 : tie.Need-returns-5
 returns-5 c =
     let p = c .before .before .before .before .before in

@@ -1,62 +1,89 @@
+use mathlib.Core.Path.{_≡_, sym, _∙_, ap}
+use Prim.Native.Nat.{ℕ}
+use lib.ListN.{length}
+use native.Mathlib.Omega.{arith}
+use Rattle.header.specs.Fields.{majorOf}
+use Rattle.header.specs.Read.{countsDirs}
+use Rattle.header.specs.Write.{unreadable}
+use Rattle.header.specs.declared.Validation.the-variants.{Strict}
+use Rattle.header.specs.declared.WriteVerdict.the-variants.{Short, Directories, Entries}
+use Rattle.header.proofs.Writing.{gives-1, gives-7, gives-9, gives-0, says-no, says-yes, header-stored}
 use borrow.Author.Needs.{needs}
 use Rattle.header.proofs.Header.write_to.Statement.{statement}
 use Rattle.header.proofs.Header.write_to.Tie as tie
-use Rattle.header.proofs.Header.write_to.Reads as reads
-use Rattle.header.proofs.Header.write_to.Lts as lts
-use Rattle.header.proofs.Version.number.Reads as number-reads
-use Rattle.header.proofs.content.put_numbers.Reads as put-numbers-reads
-use Rattle.header.proofs.content.put_start.Reads as put-start-reads
-use Rattle.header.proofs.entries.put_list.Reads as put-list-reads
-use Rattle.header.proofs.entries.unreadable.Reads as unreadable-reads
-use Rattle.header.proofs.judge.counts_dirs.Reads as counts-dirs-reads
 
--- src/lib.rt:226:13
+-- what the two looks at the header say
+counted : (c : tie.After-counts-dirs) → countsDirs Strict (majorOf (c .before .before .before .before .args .self .version)) (c .before .before .before .before .args .self .dirs) ≡ c .counts-dirs .result
+counted c = sym (c .counts-dirs .ensures ∙ ap (λ (k : ℕ). countsDirs Strict k (c .before .before .before .before .args .self .dirs)) (c .before .number .ensures))
+
+looked : (c : tie.After-unreadable) → unreadable (c .before .before .before .before .before .before .before .before .args .self .list) (c .before .before .before .before .before .before .before .before .args .self .difat) ≡ c .unreadable .result
+looked c = sym (c .unreadable .ensures)
+
+-- the places of the calls
+abbrev at-dirs : tie.After-list2 → tie.Else2
+at-dirs c = c .before .before
+
+-- the list has its 109 entries
+entries-there : (c : tie.After-list2) → length (at-dirs c .before .before .before .before .before .args .self .list) ≡ 109
+entries-there c = search needs
+
+abbrev at-list : tie.After-slice-known4 → tie.After-put-list
+at-list c = c .before .before
+
+abbrev at-numbers : tie.After-slice-known4 → tie.After-put-numbers
+at-numbers c = at-list c .before .before .before .before .before
+
+abbrev at-start : tie.After-slice-known4 → tie.After-put-start
+at-start c = at-numbers c .before .before .before .before
+
+abbrev at-looked : tie.After-slice-known4 → tie.After-unreadable
+at-looked c = at-start c .before .before .before
+
 returns : tie.Need-returns
-returns c = ?
+returns c = says-no _ _ Short (omega arith) (gives-1 _ _ (c .if1 .taken))
 
--- src/lib.rt:229:44
 number-requires : tie.Need-number-requires
 number-requires c κs = search needs
 
--- src/lib.rt:229:12
 counts-dirs-requires : tie.Need-counts-dirs-requires
 counts-dirs-requires c κs = search needs
 
--- src/lib.rt:230:13
 returns-2 : tie.Need-returns-2
-returns-2 c = ?
+returns-2 c = says-no _ _ Directories (omega arith) (gives-7 _ _ (c .before .before .before .if1 .left) (counted (c .before) ∙ c .if2 .taken))
 
--- src/lib.rt:233:23
 slice-aggregate-unreadable : tie.Need-slice-aggregate-unreadable
 slice-aggregate-unreadable c = search needs
 
--- src/lib.rt:233:12
 unreadable-requires : tie.Need-unreadable-requires
 unreadable-requires c κs = search needs
 
--- src/lib.rt:234:13
 returns-3 : tie.Need-returns-3
-returns-3 c = ?
+returns-3 c =
+    let d = at-dirs (c .before .before) in
+    says-no _ _ Entries (omega arith) (gives-9 _ _ (d .before .before .before .if1 .left) (counted (d .before) ∙ d .if2 .left) (looked (c .before) ∙ c .if3 .taken))
 
--- src/lib.rt:236:9
 put-start-requires : tie.Need-put-start-requires
 put-start-requires c κs = search needs
 
--- src/lib.rt:237:9
 put-numbers-requires : tie.Need-put-numbers-requires
 put-numbers-requires c κs = search needs
 
--- src/lib.rt:238:9
+slice-aggregate-put-list : tie.Need-slice-aggregate-put-list
+slice-aggregate-put-list c = search needs
+
 put-list-requires : tie.Need-put-list-requires
 put-list-requires c κs = search needs
 
--- src/lib.rt:222:5
 same-length : tie.Need-same-length
 same-length c = search needs
 
--- src/lib.rt:222:5
 returns-4 : tie.Need-returns-4
-returns-4 c = ?
+returns-4 c =
+    let u = at-looked c in
+    let d = at-dirs (u .before) in
+    let g = d .before .before .before .before .before in
+    says-yes _ _ _ (header-stored (g .args .self) _ _ _ _ (d .before .before .before .if1 .left) (entries-there (at-looked c .before)) (at-start c .put-start .ensures) (at-numbers c .put-numbers .ensures) (at-list c .put-list .ensures))
+    (gives-0 _ _ (d .before .before .before .if1 .left) (counted (d .before) ∙ d .if2 .left) (looked u ∙ c .before .before .before .before .before .before .before .before .before .before .before .before .before .if3 .left))
 
 pub write-to-spec : {M : Type 1} → statement M
 write-to-spec =
@@ -71,6 +98,7 @@ write-to-spec =
     returns-3
     put-start-requires
     put-numbers-requires
+    slice-aggregate-put-list
     put-list-requires
     same-length
     returns-4)

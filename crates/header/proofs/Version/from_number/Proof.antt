@@ -2,20 +2,15 @@ use borrow.Author.Tests.{ne-eqb}
 use Rattle.header.specs.Fields.{numberedOf}
 use Rattle.header.proofs.Version.from_number.Statement.{statement}
 use Rattle.header.proofs.Version.from_number.Tie as tie
-use Rattle.header.proofs.Version.from_number.Reads as reads
-use Rattle.header.proofs.Version.from_number.Lts as lts
 
--- src/lib.rt:40:5
 returns : tie.Need-returns
 unfolding numberedOf
 returns c = rw (c .match .keys1)
 
--- src/lib.rt:40:5
 returns-2 : tie.Need-returns-2
 unfolding numberedOf
 returns-2 c = rw (c .match .keys2)
 
--- src/lib.rt:40:5
 returns-3 : tie.Need-returns-3
 unfolding numberedOf
 returns-3 c = rw (ne-eqb _ _ (c .match .rest .0 .1), ne-eqb _ _ (c .match .rest .1))

@@ -4,13 +4,6 @@ use Rattle.header.specs.Read.{dirsOf, endIfFree, headerOf}
 use borrow.Author.Needs.{needs}
 use Rattle.header.proofs.content.content.Statement.{statement}
 use Rattle.header.proofs.content.content.Tie as tie
-use Rattle.header.proofs.content.content.Reads as reads
-use Rattle.header.proofs.content.content.Lts as lts
-use Rattle.header.proofs.content.dirs_of.Reads as dirs-of-reads
-use Rattle.header.proofs.content.end_if_free.Reads as end-if-free-reads
-use Rattle.header.proofs.entries.read_list.Reads as read-list-reads
-use Rattle.header.proofs.fields.number_at.Reads as number-at-reads
-use Rattle.header.proofs.judge.version_of.Reads as version-of-reads
 
 -- the places of the calls that are far back
 abbrev at-dirs : tie.After-number-at8 → tie.After-dirs-of
@@ -25,70 +18,58 @@ at-list c = at-version c .before
 abbrev at-major : tie.After-number-at8 → tie.After-number-at
 at-major c = at-list c .before
 
--- src/content.rt:40:9
 number-at-requires : tie.Need-number-at-requires
 number-at-requires c κs = search needs
 
--- src/content.rt:41:9
 read-list-requires : tie.Need-read-list-requires
 read-list-requires c κs = search needs
 
--- src/content.rt:43:18
 version-of-requires : tie.Need-version-of-requires
 version-of-requires c κs = search needs
 
--- src/content.rt:44:30
 number-at-requires-2 : tie.Need-number-at-requires-2
 number-at-requires-2 c κs = search needs
 
--- src/content.rt:44:15
 dirs-of-requires : tie.Need-dirs-of-requires
 dirs-of-requires c κs = search needs
 
--- src/content.rt:45:15
 number-at-requires-3 : tie.Need-number-at-requires-3
 number-at-requires-3 c κs = search needs
 
--- src/content.rt:46:14
 number-at-requires-4 : tie.Need-number-at-requires-4
 number-at-requires-4 c κs = search needs
 
--- src/content.rt:47:18
 number-at-requires-5 : tie.Need-number-at-requires-5
 number-at-requires-5 c κs = search needs
 
--- src/content.rt:48:19
 number-at-requires-6 : tie.Need-number-at-requires-6
 number-at-requires-6 c κs = search needs
 
--- src/content.rt:49:28
 number-at-requires-7 : tie.Need-number-at-requires-7
 number-at-requires-7 c κs = search needs
 
--- src/content.rt:49:16
 end-if-free-requires : tie.Need-end-if-free-requires
 end-if-free-requires c κs = search needs
 
--- src/content.rt:50:17
 number-at-requires-8 : tie.Need-number-at-requires-8
 number-at-requires-8 c κs = search needs
 
--- src/content.rt:36:1
 returns : tie.Need-returns
 unfolding headerOf
 returns c =
     let major = at-major c .number-at .ensures in
     λ i.
-    record
-    { version = (at-version c .version-of .ensures ∙ ap versionOf major) i
-    ; dirs = (at-dirs c .dirs-of .ensures ∙ ap₂ dirsOf major (at-dirs c .before .number-at2 .ensures)) i
-    ; fats = c .before .before .before .before .before .before .number-at3 .ensures i
-    ; dir = c .before .before .before .before .before .number-at4 .ensures i
-    ; minifat = c .before .before .before .before .number-at5 .ensures i
-    ; minifats = c .before .before .before .number-at6 .ensures i
-    ; difat = (c .before .end-if-free .ensures ∙ ap endIfFree (c .before .before .number-at7 .ensures)) i
-    ; difats = c .number-at8 .ensures i
-    ; list = at-list c .read-list .ensures i }
+    record {
+      version = (at-version c .version-of .ensures ∙ ap versionOf major) i;
+      dirs = (at-dirs c .dirs-of .ensures ∙ ap₂ dirsOf major (at-dirs c .before .number-at2 .ensures)) i;
+      fats = c .before .before .before .before .before .before .number-at3 .ensures i;
+      dir = c .before .before .before .before .before .number-at4 .ensures i;
+      minifat = c .before .before .before .before .number-at5 .ensures i;
+      minifats = c .before .before .before .number-at6 .ensures i;
+      difat = (c .before .end-if-free .ensures ∙ ap endIfFree (c .before .before .number-at7 .ensures)) i;
+      difats = c .number-at8 .ensures i;
+      list = at-list c .read-list .ensures i;
+    }
 
 pub content-spec : {M : Type 1} → statement M
 content-spec =

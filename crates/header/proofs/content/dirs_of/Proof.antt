@@ -2,15 +2,11 @@ use borrow.Author.Tests.{eq-eqb, ne-eqb}
 use Rattle.header.specs.Read.{dirsOf}
 use Rattle.header.proofs.content.dirs_of.Statement.{statement}
 use Rattle.header.proofs.content.dirs_of.Tie as tie
-use Rattle.header.proofs.content.dirs_of.Reads as reads
-use Rattle.header.proofs.content.dirs_of.Lts as lts
 
--- src/content.rt:18:1
 returns : tie.Need-returns
 unfolding dirsOf
 returns c = rw (eq-eqb _ _ (c .if1 .taken))
 
--- src/content.rt:18:1
 returns-2 : tie.Need-returns-2
 unfolding dirsOf
 returns-2 c = rw (ne-eqb _ _ (c .if1 .left))

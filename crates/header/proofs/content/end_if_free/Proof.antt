@@ -2,15 +2,11 @@ use borrow.Author.Tests.{eq-eqb, ne-eqb}
 use Rattle.header.specs.Read.{endIfFree}
 use Rattle.header.proofs.content.end_if_free.Statement.{statement}
 use Rattle.header.proofs.content.end_if_free.Tie as tie
-use Rattle.header.proofs.content.end_if_free.Reads as reads
-use Rattle.header.proofs.content.end_if_free.Lts as lts
 
--- src/content.rt:25:1
 returns : tie.Need-returns
 unfolding endIfFree
 returns c = rw (eq-eqb _ _ (c .if1 .taken))
 
--- src/content.rt:25:1
 returns-2 : tie.Need-returns-2
 unfolding endIfFree
 returns-2 c = rw (ne-eqb _ _ (c .if1 .left))

@@ -9,8 +9,6 @@ use Rattle.header.specs.Fields.{allFree}
 use Rattle.header.proofs.Listed.{flag-free, flag-other, flag-end}
 use Rattle.header.proofs.entries.all_free.Statement.{statement}
 use Rattle.header.proofs.entries.all_free.Tie as tie
-use Rattle.header.proofs.entries.all_free.Reads as reads
-use Rattle.header.proofs.entries.all_free.Lts as lts
 
 abbrev Inv-loop : tie.InvT-loop
 Inv-loop list free₀ i₀ free i = (i ≤ length list) × (allFree list ≡ both free (allFree (drop i list)))
@@ -18,33 +16,26 @@ Inv-loop list free₀ i₀ free i = (i ≤ length list) × (allFree list ≡ bot
 abbrev μ-loop : tie.MeasureT-loop
 μ-loop list free₀ i₀ free i = length list - i
 
--- src/entries.rt:61:5
 loop-holds : tie.Need-loop-holds Inv-loop μ-loop
 loop-holds c = (omega arith, refl)
 
--- src/entries.rt:62:12
 mul-if1 : tie.Need-mul-if1 Inv-loop μ-loop
 mul-if1 c = search needs
 
--- src/entries.rt:62:12
 shared-slice-read-if1 : tie.Need-shared-slice-read-if1 Inv-loop μ-loop
 shared-slice-read-if1 c = omega arith
 
--- src/entries.rt:65:9
 add-i : tie.Need-add-i Inv-loop μ-loop
 add-i c = omega arith
 
--- src/entries.rt:61:5
 loop-less : tie.Need-loop-less Inv-loop μ-loop
 loop-less c = omega arith
 
--- src/entries.rt:61:5
 loop-again : tie.Need-loop-again Inv-loop μ-loop
 loop-again c = let l = c .before .before .before .loop in
     let xs = c .before .before .before .before .args .list .now in
     (omega arith, ⊎-elim (λ w. flag-other xs (l .i) (l .free) (c .if1 .free) (c .before .before .loop-test .taken) (l .inv .1) (w .0 .taken) (w .1)) (λ w. flag-free xs (l .i) (l .free) (c .if1 .free) (c .before .before .loop-test .taken) (l .inv .1) (w .0 .left) (w .1)) (c .if1 .came))
 
--- src/entries.rt:56:1
 returns : tie.Need-returns Inv-loop μ-loop
 returns c =
     let l = c .before .loop in

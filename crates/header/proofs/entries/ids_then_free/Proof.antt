@@ -6,40 +6,29 @@ use Rattle.header.proofs.Listed.{ids-within, rest-free}
 use borrow.Author.Needs.{needs}
 use Rattle.header.proofs.entries.ids_then_free.Statement.{statement}
 use Rattle.header.proofs.entries.ids_then_free.Tie as tie
-use Rattle.header.proofs.entries.ids_then_free.Reads as reads
-use Rattle.header.proofs.entries.ids_then_free.Lts as lts
-use Rattle.header.proofs.entries.all_free.Reads as all-free-reads
-use Rattle.header.proofs.entries.leading_ids.Reads as leading-ids-reads
 
 -- the ids are within the list
 within : (c : tie.After-leading-ids) → c .leading-ids .result ≤ length (c .before .before .args .list .now)
 within c = rw (c .leading-ids .ensures) (ids-within (c .before .before .args .list .now))
 
--- src/entries.rt:74:9
 leading-ids-requires : tie.Need-leading-ids-requires
 leading-ids-requires c κs = search needs
 
--- src/entries.rt:75:14
 mul-all-free : tie.Need-mul-all-free
 mul-all-free c = omega (arith, within c)
 
--- src/entries.rt:75:14
 sub-all-free : tie.Need-sub-all-free
 sub-all-free c = within c
 
--- src/entries.rt:75:14
 part-all-free-start : tie.Need-part-all-free-start
 part-all-free-start c = omega (arith, within c)
 
--- src/entries.rt:75:14
 part-all-free-end : tie.Need-part-all-free-end
 part-all-free-end c = search needs
 
--- src/entries.rt:75:5
 all-free-requires : tie.Need-all-free-requires
 all-free-requires c κs = search needs
 
--- src/entries.rt:71:1
 returns : tie.Need-returns
 returns c = c .all-free .ensures ∙ rest-free _ _ (c .before .before .leading-ids .ensures)
 

@@ -7,8 +7,6 @@ use Rattle.header.specs.Fields.{idsIn}
 use Rattle.header.proofs.Listed.{ids-more, ids-stop, ids-end}
 use Rattle.header.proofs.entries.leading_ids.Statement.{statement}
 use Rattle.header.proofs.entries.leading_ids.Tie as tie
-use Rattle.header.proofs.entries.leading_ids.Reads as reads
-use Rattle.header.proofs.entries.leading_ids.Lts as lts
 
 abbrev Inv-loop : tie.InvT-loop
 Inv-loop list i₀ i = (i ≤ length list) × (idsIn list ≡ i + idsIn (drop i list))
@@ -16,39 +14,31 @@ Inv-loop list i₀ i = (i ≤ length list) × (idsIn list ≡ i + idsIn (drop i 
 abbrev μ-loop : tie.MeasureT-loop
 μ-loop list i₀ i = length list - i
 
--- src/entries.rt:46:5
 loop-holds : tie.Need-loop-holds Inv-loop μ-loop
 loop-holds c = (omega arith, omega arith)
 
--- src/entries.rt:47:41
 mul-if1 : tie.Need-mul-if1 Inv-loop μ-loop
 mul-if1 c = search needs
 
--- src/entries.rt:47:41
 shared-slice-read-if1 : tie.Need-shared-slice-read-if1 Inv-loop μ-loop
 shared-slice-read-if1 c = omega arith
 
--- src/entries.rt:48:13
 returns : tie.Need-returns Inv-loop μ-loop
 returns c =
     let l = c .before .before .before .loop in
     omega (arith, ids-stop (c .before .before .before .before .args .list .now) (l .i) (c .before .before .loop-test .taken) (c .if1 .taken))
 
--- src/entries.rt:50:9
 add-i : tie.Need-add-i Inv-loop μ-loop
 add-i c = omega arith
 
--- src/entries.rt:46:5
 loop-less : tie.Need-loop-less Inv-loop μ-loop
 loop-less c = omega arith
 
--- src/entries.rt:46:5
 loop-again : tie.Need-loop-again Inv-loop μ-loop
 loop-again c =
     let l = c .before .before .before .loop in
     (omega arith, omega (arith, ids-more (c .before .before .before .before .args .list .now) (l .i) (c .before .before .loop-test .taken) (c .if1 .left)))
 
--- src/entries.rt:42:1
 returns-2 : tie.Need-returns-2 Inv-loop μ-loop
 returns-2 c =
     let l = c .before .loop in

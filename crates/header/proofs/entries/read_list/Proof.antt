@@ -10,9 +10,6 @@ use Rattle.header.specs.Fields.{entryAt, listOf}
 use borrow.Author.Needs.{needs}
 use Rattle.header.proofs.entries.read_list.Statement.{statement}
 use Rattle.header.proofs.entries.read_list.Tie as tie
-use Rattle.header.proofs.entries.read_list.Reads as reads
-use Rattle.header.proofs.entries.read_list.Lts as lts
-use Rattle.words.proofs.read32.Reads as read32-reads
 
 abbrev Inv-loop : tie.InvT-loop
 Inv-loop b at list₀ i₀ list i = (i ≤ 109) × (at ≡ 76) × (list ≡ tab (entryAt b) i ++ drop i (replicate 109 0))
@@ -20,50 +17,39 @@ Inv-loop b at list₀ i₀ list i = (i ≤ 109) × (at ≡ 76) × (list ≡ tab 
 abbrev μ-loop : tie.MeasureT-loop
 μ-loop b at list₀ i₀ list i = 109 - i
 
--- src/entries.rt:16:13
 array-copy-out-f : tie.Need-array-copy-out-f Inv-loop μ-loop
 array-copy-out-f c = search needs
 
--- src/entries.rt:20:5
 loop-holds : tie.Need-loop-holds Inv-loop μ-loop
 loop-holds c = (omega arith, refl, filled-none _ _)
 
--- src/entries.rt:21:41
 mul-read32 : tie.Need-mul-read32 Inv-loop μ-loop
 mul-read32 c = omega arith
 
--- src/entries.rt:21:36
 add-read32 : tie.Need-add-read32 Inv-loop μ-loop
 add-read32 c = omega arith
 
--- src/entries.rt:21:19
 read32-requires : tie.Need-read32-requires Inv-loop μ-loop
 read32-requires c κs = omega arith
 
--- src/entries.rt:21:9
 mul-list : tie.Need-mul-list Inv-loop μ-loop
 mul-list c = omega arith
 
--- src/entries.rt:21:9
 array-write-list : tie.Need-array-write-list Inv-loop μ-loop
 array-write-list c = omega arith
 
--- src/entries.rt:22:9
 add-i : tie.Need-add-i Inv-loop μ-loop
 add-i c = omega arith
 
--- src/entries.rt:20:5
 loop-less : tie.Need-loop-less Inv-loop μ-loop
 loop-less c = omega arith
 
--- src/entries.rt:20:5
 loop-again : tie.Need-loop-again Inv-loop μ-loop
 unfolding entryAt
 loop-again c =
     let l = c .before .before .loop in
     (omega arith, l .inv .1, ap (λ (u : List ℕ). set u (l .i) (c .read32 .result)) (l .inv .2) ∙ filled-more _ _ _ _ (c .before .loop-test .taken) (c .read32 .ensures ∙ ap (λ (o : ℕ). le 4 (c .before .before .before .before .before .args .b .now) (o + 4 * l .i)) (l .inv .1)))
 
--- src/entries.rt:12:1
 returns : tie.Need-returns Inv-loop μ-loop
 unfolding listOf
 returns c =

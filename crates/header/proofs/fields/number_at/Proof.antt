@@ -3,33 +3,23 @@ use native.Mathlib.Omega.{arith}
 use Rattle.header.proofs.Table.{number-below, number-fits, number-wide, number-is}
 use Rattle.header.proofs.fields.number_at.Statement.{statement}
 use Rattle.header.proofs.fields.number_at.Tie as tie
-use Rattle.header.proofs.fields.number_at.Reads as reads
-use Rattle.header.proofs.fields.number_at.Lts as lts
-use Rattle.words.proofs.read16.Reads as read16-reads
-use Rattle.words.proofs.read32.Reads as read32-reads
 
--- src/fields.rt:82:13
 mul-f : tie.Need-mul-f
 mul-f c = omega (arith, number-below (c .before .args .place) (c .before .pre .1))
 
--- src/fields.rt:82:13
 array-copy-out-f : tie.Need-array-copy-out-f
 array-copy-out-f c = omega (arith, number-below (c .before .args .place) (c .before .pre .1))
 
--- src/fields.rt:86:9
 read16-requires : tie.Need-read16-requires
 read16-requires c κs = number-fits (c .before .before .before .args .place) _ 2 (c .before .before .before .pre .1) (c .before .before .before .pre .0) (c .if1 .taken)
 
--- src/fields.rt:88:9
 read32-requires : tie.Need-read32-requires
 read32-requires c κs = let s = c .before .before .before in
     number-fits (s .args .place) _ 4 (s .pre .1) (s .pre .0) (number-wide (s .args .place) (s .pre .1) (c .if1 .left))
 
--- src/fields.rt:77:1
 returns : tie.Need-returns
 returns c = c .read16 .ensures ∙ number-is _ _ 2 (c .before .if1 .taken)
 
--- src/fields.rt:77:1
 returns-2 : tie.Need-returns-2
 returns-2 c = let s = c .before .before .before .before in
     c .read32 .ensures ∙ number-is _ _ 4 (number-wide (s .args .place) (s .pre .1) (c .before .if1 .left))

@@ -5,29 +5,22 @@ use Rattle.header.specs.Read.{countsDirs}
 use borrow.Author.Needs.{needs}
 use Rattle.header.proofs.judge.counts_dirs.Statement.{statement}
 use Rattle.header.proofs.judge.counts_dirs.Tie as tie
-use Rattle.header.proofs.judge.counts_dirs.Reads as reads
-use Rattle.header.proofs.judge.counts_dirs.Lts as lts
-use Rattle.header.proofs.Validation.is_strict.Reads as is-strict-reads
 
 -- what the test of the mode says
 strict : (c : tie.After-is-strict) → isStrict (c .before .args .validation) ≡ c .is-strict .result
 strict c = sym (c .is-strict .ensures)
 
--- src/judge.rt:58:9
 is-strict-requires : tie.Need-is-strict-requires
 is-strict-requires c κs = search needs
 
--- src/judge.rt:59:9
 returns : tie.Need-returns
 unfolding countsDirs
 returns c = rw (strict (c .before) ∙ not-true _ (c .if1 .taken))
 
--- src/judge.rt:62:9
 returns-2 : tie.Need-returns-2
 unfolding countsDirs
 returns-2 c = rw (strict (c .before .before) ∙ not-false _ (c .before .if1 .left), ne-eqb _ _ (c .if2 .taken))
 
--- src/judge.rt:55:1
 returns-3 : tie.Need-returns-3
 unfolding countsDirs
 returns-3 c = rw (strict (c .before .before) ∙ not-false _ (c .before .if1 .left), eq-eqb _ _ (c .if2 .left))

@@ -8,12 +8,6 @@ use Rattle.header.specs.Read.{fixedRows}
 use borrow.Author.Needs.{needs}
 use Rattle.header.proofs.judge.judge.Statement.{statement}
 use Rattle.header.proofs.judge.judge.Tie as tie
-use Rattle.header.proofs.judge.judge.Reads as reads
-use Rattle.header.proofs.judge.judge.Lts as lts
-use Rattle.header.proofs.Version.sector_shift.Reads as sector-shift-reads
-use Rattle.header.proofs.judge.counts_dirs.Reads as counts-dirs-reads
-use Rattle.header.proofs.judge.unknown.Reads as unknown-reads
-use Rattle.header.proofs.judge.version_of.Reads as version-of-reads
 
 -- the table at the function's entry, and from each test that was passed
 abbrev rows : tie.Start → List Row
@@ -65,61 +59,48 @@ past6 : (c : tie.Else6) → Passed (rows (entry6 c)) 6
 unfolding fixedRows
 past6 c = passed-more (rows (entry6 c)) 5 (past5 (c .before .before)) (alike _ _ (c .if6 .left))
 
--- src/judge.rt:78:19
 cast-if1 : tie.Need-cast-if1
 cast-if1 c = search needs
 
--- src/judge.rt:79:9
 returns : tie.Need-returns
 unfolding fixedRows
 returns c = passed-given (rows (c .before .before)) 0 (passed-none _) (unlike _ _ (c .if1 .taken))
 
--- src/judge.rt:81:8
 unknown-requires : tie.Need-unknown-requires
 unknown-requires c κs = search needs
 
--- src/judge.rt:82:9
 returns-2 : tie.Need-returns-2
 unfolding fixedRows
 returns-2 c = passed-given (rows (entry1 (c .before .before))) 1 (past1 (c .before .before)) (sym (c .before .unknown .ensures) ∙ c .if2 .taken)
 
--- src/judge.rt:84:19
 version-of-requires : tie.Need-version-of-requires
 version-of-requires c κs = search needs
 
--- src/judge.rt:84:19
 sector-shift-requires : tie.Need-sector-shift-requires
 sector-shift-requires c κs = search needs
 
--- src/judge.rt:85:9
 returns-3 : tie.Need-returns-3
 unfolding fixedRows
 returns-3 c = passed-given (rows (entry2 (c .before .before .before .before))) 2 (past2 (c .before .before .before .before)) (unlike _ _ (λ e. c .if3 .taken (e ∙ sym (shift-is (c .before .before)))))
 
--- src/judge.rt:87:18
 cast-if4 : tie.Need-cast-if4
 cast-if4 c = search needs
 
--- src/judge.rt:88:9
 returns-4 : tie.Need-returns-4
 unfolding fixedRows
 returns-4 c = passed-given (rows (entry3 (c .before .before))) 3 (past3 (c .before .before)) (unlike _ _ (c .if4 .taken))
 
--- src/judge.rt:90:8
 counts-dirs-requires : tie.Need-counts-dirs-requires
 counts-dirs-requires c κs = search needs
 
--- src/judge.rt:91:9
 returns-5 : tie.Need-returns-5
 unfolding fixedRows
 returns-5 c = passed-given (rows (entry4 (c .before .before))) 4 (past4 (c .before .before)) (sym (c .before .counts-dirs .ensures) ∙ c .if5 .taken)
 
--- src/judge.rt:94:9
 returns-6 : tie.Need-returns-6
 unfolding fixedRows
 returns-6 c = passed-given (rows (entry5 (c .before .before))) 5 (past5 (c .before .before)) (unlike _ _ (c .if6 .taken))
 
--- src/judge.rt:75:1
 returns-7 : tie.Need-returns-7
 unfolding fixedRows
 returns-7 c = passed-all (rows (entry6 c)) (past6 c)

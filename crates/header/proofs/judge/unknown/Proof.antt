@@ -2,15 +2,11 @@ use borrow.Author.Tests.{eq-eqb, ne-eqb}
 use Rattle.header.specs.Read.{unknown}
 use Rattle.header.proofs.judge.unknown.Statement.{statement}
 use Rattle.header.proofs.judge.unknown.Tie as tie
-use Rattle.header.proofs.judge.unknown.Reads as reads
-use Rattle.header.proofs.judge.unknown.Lts as lts
 
--- src/judge.rt:49:9
 returns : tie.Need-returns
 unfolding unknown
 returns c = rw (eq-eqb _ _ (c .if1 .taken))
 
--- src/judge.rt:45:1
 returns-2 : tie.Need-returns-2
 unfolding unknown
 returns-2 c = rw (ne-eqb _ _ (c .if1 .left))

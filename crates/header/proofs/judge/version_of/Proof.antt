@@ -2,15 +2,11 @@ use borrow.Author.Tests.{eq-eqb, ne-eqb}
 use Rattle.header.specs.Fields.{versionOf}
 use Rattle.header.proofs.judge.version_of.Statement.{statement}
 use Rattle.header.proofs.judge.version_of.Tie as tie
-use Rattle.header.proofs.judge.version_of.Reads as reads
-use Rattle.header.proofs.judge.version_of.Lts as lts
 
--- src/judge.rt:68:1
 returns : tie.Need-returns
 unfolding versionOf
 returns c = rw (eq-eqb _ _ (c .if1 .taken))
 
--- src/judge.rt:68:1
 returns-2 : tie.Need-returns-2
 unfolding versionOf
 returns-2 c = rw (ne-eqb _ _ (c .if1 .left))
