@@ -1,7 +1,7 @@
 -- Items as numbers: what a function finds by cases is what the definitions say, and an item comes back from its numbers. Assumes nothing.
 use Prim.Native.Nat.{ℕ, _≤_, _<_}
-use mathlib.Core.Path.{_≡_, refl, _∙_, sym, ap}
-use mathlib.Core.List.{List, [], _∷_}
+use mathlib.Core.Path.{_≡_, refl, sym, ap}
+use mathlib.Core.List.{[], _∷_}
 use mathlib.Core.Logic.{_≢_}
 use borrow.Author.Tests.{le-leb, lt-leb, ne-eqb}
 use Rattle.consts.specs.Consts.{freeSector}

@@ -1,16 +1,56 @@
 // The functions that C and Rust call: each takes what it is lent apart, calls the proved library, and gives numbers.
 // None asks anything of its caller: every number and every slice has an answer.
 mod items;
+mod layout;
 
+use header::Header;
+use header::Numbered;
+use header::Version;
 use items::item_named;
 use items::item_numbers;
 use items::named_text;
 use items::number_of_item;
 use items::number_of_kind;
+use layout::header_with;
+use layout::mode_of;
+use layout::words_of;
 ghost use mathlib.Core.Path.{_≡_};
+ghost use lib.ListN.{length};
 ghost use Rattle.consts.specs.Kinds.{kindOf};
 ghost use Rattle.consts.specs.Pretty.{itemAt};
+ghost use Rattle.header.specs.Read.{readNo};
 ghost use Rattle.export.specs.Items.{kindNumber, itemNumber, itemNumbers, namedOf, namedText};
+ghost use Rattle.export.specs.Layout.{modeOf, wordsOf, headerLeft, writtenNo, bytesLeft};
+
+// Reads a header: 0, or the number of the refusal; `words` then hold the header, or what stands beside the refusal. Mode 0 is permissive.
+#[no_mangle]
+pub extern "C" fn rasuvelk_read_header(bytes: &[u8], mode: u32, words: &mut [u32; 117]) -> u32
+    ensures { λ r. ⌜ r ≡ readNo (modeOf mode) (now (bytes .entry)) ⌝ }
+    ensures { λ _. ⌜ now (words .exit) ≡ wordsOf (headerLeft (modeOf mode) (now (bytes .entry))) ⌝ }
+{
+    let read = Header::read_from(bytes, mode_of(mode));
+    let header = read.header;
+    let held = words_of(header);
+    *words = held;
+    let verdict = read.verdict;
+    verdict.number()
+}
+
+// Writes a header over the first 512 bytes: 0, or the number of the refusal, which leaves every byte. A version that is none is judged first.
+#[no_mangle]
+pub extern "C" fn rasuvelk_write_header(words: &[u32; 117], buf: &mut [u8]) -> u32
+    ensures { λ r. ⌜ r ≡ writtenNo (now (words .entry)) (length (now (buf .entry))) ⌝ }
+    ensures { λ _. ⌜ now (buf .exit) ≡ bytesLeft (now (words .entry)) (now (buf .entry)) ⌝ }
+{
+    let numbered = Version::from_number(words[0]);
+    let Numbered::Known(version) = numbered else {
+        return 4;
+    };
+    let held = *words;
+    let header = header_with(version, held);
+    let verdict = header.write_to(buf);
+    verdict.number()
+}
 
 // The kind of an entry: 0 regular, 1 reserved, 2 DIFAT, 3 FAT, 4 END, 5 FREE.
 #[no_mangle]
