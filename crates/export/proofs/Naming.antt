@@ -1,19 +1,19 @@
--- Items as numbers: what a function finds by cases is what the definitions say, and an item comes back from its numbers. Assumes nothing.
+-- Items as numbers: what a function finds by cases is what the definitions say. Assumes nothing.
 use Prim.Native.Nat.{ℕ, _≤_, _<_}
-use mathlib.Core.Path.{_≡_, refl, sym, ap}
+use mathlib.Core.Path.{_≡_, sym, ap}
 use mathlib.Core.List.{[], _∷_}
 use mathlib.Core.Logic.{_≢_}
 use borrow.Author.Tests.{le-leb, lt-leb, ne-eqb}
 use Rattle.consts.specs.Consts.{freeSector}
 use Rattle.consts.specs.Text.{textOf, written}
 use Rattle.consts.specs.declared.Sector.{Sector}
-use Rattle.consts.specs.declared.Sector.the-variants.{Free, End, Fat, Difat, Range}
+use Rattle.consts.specs.declared.Sector.the-variants.{Range}
 use Rattle.consts.specs.declared.Item.{Item}
 use Rattle.consts.specs.declared.Item.the-variants.{Next}
 use Rattle.consts.specs.declared.Text.{Text}
 use Rattle.export.specs.declared.items.Named.{Named}
 use Rattle.export.specs.declared.items.Named.the-variants.{Known, Unknown}
-use Rattle.export.specs.Items.{sectorNumber, sectorFirst, sectorLast, itemNumbers, namedRange, namedOf, namedText}
+use Rattle.export.specs.Items.{sectorFirst, sectorLast, itemNumbers, namedRange, namedOf, namedText}
 
 -- the three numbers of an answer that has an item
 pub numbers-of-next : {found : Item} {s : Sector} {first last past : ℕ} → found ≡ Next s past → first ≡ sectorFirst s → last ≡ sectorLast s
@@ -51,12 +51,3 @@ text-of-known e t = rw e t
 -- the text of no item
 pub text-of-unknown : {asked : Named} → asked ≡ Unknown → written [] ≡ namedText asked
 text-of-unknown e = rw e
-
--- an item whose numbers are entries is named by its own numbers
-pub named-again : (s : Sector) → sectorFirst s ≤ freeSector → sectorLast s ≤ freeSector → namedOf (sectorNumber s) (sectorFirst s) (sectorLast s) ≡ Known s
-unfolding namedOf
-named-again (Free n) h k = refl
-named-again End h k = refl
-named-again (Fat n) h k = refl
-named-again (Difat n) h k = refl
-named-again (Range a b) h k = sym (range-known a b h k)

@@ -1,6 +1,6 @@
 -- A list that is put into another element by element, and the words of a header. Assumes nothing.
 use Prim.Native.Nat.{ℕ, _+_, _≤_, _<_}
-use mathlib.Core.Path.{_≡_, refl, _∙_, ap}
+use mathlib.Core.Path.{_≡_, _∙_, ap}
 use mathlib.Core.List.{List, _++_, append-nil}
 use native.Mathlib.Numerals.{add-one}
 use native.Mathlib.Omega.{arith}
@@ -9,11 +9,10 @@ use lib.Seq.{take-suc, take-all, length-take-le, getD-drop}
 use Rattle.lists.specs.Lists.{splice}
 use Rattle.lists.proofs.Splice.{splice-whole}
 use Rattle.words.proofs.Laws.{put-more, copied-more}
-use Rattle.header.specs.Fields.{majorOf, versionOf}
+use Rattle.header.specs.Fields.{majorOf}
 use Rattle.header.specs.declared.Version.{Version}
-use Rattle.header.specs.declared.Version.the-variants.{V3, V4}
 use Rattle.header.specs.declared.Header.{Header}
-use Rattle.export.specs.Layout.{wordsOf, headerWith, headerFrom}
+use Rattle.export.specs.Layout.{wordsOf, headerWith}
 
 -- one element more of a list that goes in from place o on
 pub placed-more : (b : List ℕ) (o : ℕ) (xs : List ℕ) (i : ℕ) {l : List ℕ} → l ≡ splice b o (take i xs) → i < length xs → o + length xs ≤ length b
@@ -53,12 +52,3 @@ pub list-held : (v : Version) (words : List ℕ) {list : List ℕ} → list ≡ 
     → _≡_ {A = Header} (record { version = v; dirs = getD words 1 0; fats = getD words 2 0; dir = getD words 3 0; minifat = getD words 4 0; minifats = getD words 5 0; difat = getD words 6 0; difats = getD words 7 0; list = list }) (headerWith v words)
 unfolding headerWith
 list-held v words e = rw e
-
--- a header comes back from its words
-pub header-again : (h : Header) → headerFrom (wordsOf h) ≡ h
-unfolding headerFrom headerWith wordsOf versionOf
-header-again h = version-again (h .version)
-  where
-    version-again : (v : Version) → headerWith (versionOf (majorOf v)) (wordsOf h) ≡ headerWith v (wordsOf h)
-    version-again V3 = refl
-    version-again V4 = refl

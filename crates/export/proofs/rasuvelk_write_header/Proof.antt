@@ -5,6 +5,19 @@ use borrow.Author.Needs.{needs}
 use Rattle.export.proofs.rasuvelk_write_header.Statement.{statement}
 use Rattle.export.proofs.rasuvelk_write_header.Tie as tie
 
+-- the places of the calls that lie far back
+abbrev at-write : tie.After-number → tie.After-write-to
+at-write c = c .before .before .before
+
+abbrev at-header : tie.After-number → tie.After-header-with
+at-header c = at-write c .before .before
+
+abbrev at-version : tie.After-number → tie.After-numbered
+at-version c = at-header c .before .before .before
+
+abbrev at-number : tie.After-number → tie.After-from-number
+at-number c = at-version c .before .before
+
 element-copy-out-from-number : tie.Need-element-copy-out-from-number
 element-copy-out-from-number c = search needs
 
@@ -38,11 +51,11 @@ same-length c = search needs
 
 returns-2 : tie.Need-returns-2
 returns-2 c =
-    let words = c .before .before .before .before .before .before .before .before .before .before .before .before .before .args .words .now in
-    let numbered = c .before .before .before .before .before .before .before .before .before .before .from-number .ensures in
-    let version = c .before .before .before .before .before .before .before .before .numbered .given .1 in
-    let header = c .before .before .before .before .before .header-with .ensures in
-    let says = c .before .before .before .write-to .ensures in
+    let words = at-number c .before .before .before .args .words .now in
+    let numbered = at-number c .from-number .ensures in
+    let version = at-version c .numbered .given .1 in
+    let header = at-header c .header-with .ensures in
+    let says = at-write c .write-to .ensures in
     (c .number .ensures ∙ written-number words numbered version header says, written-bytes words numbered version header says)
 
 pub rasuvelk-write-header-spec : {M : Type 1} → statement M
