@@ -1,4 +1,6 @@
 pub mod Listed
 pub mod Reading
+pub mod RoundTrip
 pub mod Table
 pub mod Writing
+pub mod Written

@@ -61,13 +61,17 @@ fixedRows m f =
     ∷ row 8 (not (eqb (f .cutoff) miniCutoff))
     ∷ []
 
--- document 01's rows 1 to 9
-unfoldable pub readRows : Validation → List ℕ → List Row
+-- document 01's rows 2 to 9, which the first 512 bytes decide
+unfoldable pub headerRows : Validation → List ℕ → List Row
 unfolding fixedRows fixedOf
-readRows m b =
-    row 1 (ltb (length b) 512)
-    ∷ row 2 (not (sameList (part b 0 8) signature))
+headerRows m b =
+    row 2 (not (sameList (part b 0 8) signature))
     ∷ (fixedRows m (fixedOf b) ++ (row 9 (not (idsThenFree (listOf b))) ∷ []))
+
+-- document 01's rows 1 to 9, for the reader alone
+unfoldable pub readRows : Validation → List ℕ → List Row
+unfolding headerRows
+readRows m b = row 1 (ltb (length b) 512) ∷ headerRows m b
 
 -- the number that a reading ends with
 unfoldable pub readNo : Validation → List ℕ → ℕ

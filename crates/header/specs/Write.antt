@@ -1,11 +1,11 @@
 -- What writing a header gives: document 01's refusals 1, 7 and 9, and the bytes by MS-CFB 2.2. Assumes nothing.
-use Prim.Native.Nat.{ℕ}
+use Prim.Native.Nat.{ℕ, _^_, _<_}
 use mathlib.Core.Path.{_≡_}
 use mathlib.Core.Bool.{Bool, not}
 use mathlib.Core.List.{List, [], _∷_, _++_}
 use lib.Dec.{eqb, ltb}
 use lib.ListN.{length, replicate}
-use Rattle.lists.specs.Lists.{choose, either, splice}
+use Rattle.lists.specs.Lists.{choose, either, splice, Below}
 use Rattle.lists.specs.Rows.{Row, row, refusal}
 use Rattle.words.specs.Words.{digits}
 use Rattle.consts.specs.Consts.{signature, minorVersion, byteOrder, miniShift, miniCutoff, freeSector}
@@ -69,3 +69,15 @@ headerBytes h = startBytes (h .version) ++ (numberBytes h ++ listBytes (h .list)
 pub record WriteSays (h : Header) (before after : List ℕ) (v : WriteVerdict) : Type 0 where
   pub number : writeNumber v ≡ writeNo h (length before)
   pub buffer : after ≡ choose (eqb (writeNo h (length before)) 0) (splice before 0 (headerBytes h)) before
+
+-- a header of the code's own types: every number below 2 ^ 32, and 109 entries
+pub record Sized (h : Header) : Type 0 where
+  pub dirs : h .dirs < 2 ^ 32
+  pub fats : h .fats < 2 ^ 32
+  pub dir : h .dir < 2 ^ 32
+  pub minifat : h .minifat < 2 ^ 32
+  pub minifats : h .minifats < 2 ^ 32
+  pub difat : h .difat < 2 ^ 32
+  pub difats : h .difats < 2 ^ 32
+  pub entries : length (h .list) ≡ 109
+  pub list : Below (2 ^ 32) (h .list)

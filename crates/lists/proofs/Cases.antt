@@ -63,6 +63,15 @@ pub either-cases : (a b : Bool) → either a b ≡ true → (a ≡ true) ⊎ (b 
 either-cases true b h = inl refl
 either-cases false b h = inr h
 
+pub either-right : (a b : Bool) → b ≡ true → either a b ≡ true
+either-right true b h = refl
+either-right false b h = h
+
+-- neither of two tests holds
+pub either-none : (a b : Bool) → either a b ≡ false → (a ≡ false) × (b ≡ false)
+either-none true b h = absurd (not-both refl h)
+either-none false b h = (refl, h)
+
 -- a test over the numbers below n, at one of them: how a table's rule is had from one computed test
 pub every-at : (n : ℕ) (f : ℕ → Bool) → every n f ≡ true → (i : ℕ) → i < n → f i ≡ true
 unfolding every

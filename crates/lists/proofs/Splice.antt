@@ -9,7 +9,7 @@ use native.Mathlib.Nat.{add-zero, add-assoc}
 use borrow.Author.Tests.{eq-eqb}
 use borrow.Rule.Slice.PartMut.{putMid}
 use lib.Dec.{eqb}
-use lib.ListN.{length, getD, take, drop, set, length-append, length-take, length-drop, take-append-drop, List·getD-append}
+use lib.ListN.{length, getD, take, drop, set, replicate, length-append, length-take, length-drop, take-append-drop, List·getD-append}
 use lib.Seq.{ext-getD, getD-append-add, getD-take, getD-drop, getD-set-same, getD-set-other, length-take-le, drop-drop}
 use Rattle.lists.specs.Lists.{splice, part, sameList, both, Below}
 use Rattle.lists.proofs.Cases.{below-or, both-left, both-right, both-true, not-both}
@@ -80,13 +80,14 @@ module _ (b : List ℕ) (o : ℕ) (xs : List ℕ) (fits : o + length xs ≤ leng
       ∙ ⊎-elim (λ (l : p + k ≤ o). splice-below (p + i) (omega arith)) (λ (g : o + length xs ≤ p). splice-above (p + i) (omega arith)) apart
       ∙ sym (getD-part b p k i low))
 
-  -- the run itself
-  pub part-of-splice : part (splice b o xs) o (length xs) ≡ xs
-  part-of-splice =
-      ext-getD 0 (part (splice b o xs) o (length xs)) xs (length-part (splice b o xs) o (length xs) (rw length-splice fits))
+  -- what lies within the run is the run's
+  pub part-inside : (p k : ℕ) → p + k ≤ length xs → part (splice b o xs) (o + p) k ≡ part xs p k
+  part-inside p k h =
+      let fits' : o + p + k ≤ length (splice b o xs) = rw length-splice (omega arith) in
+      ext-getD 0 (part (splice b o xs) (o + p) k) (part xs p k) (length-part (splice b o xs) (o + p) k fits' ∙ sym (length-part xs p k h))
       (λ i hi.
-      let low : i < length xs = rw (length-part (splice b o xs) o (length xs) (rw length-splice fits)) at hi in
-      getD-part (splice b o xs) o (length xs) i low ∙ splice-inside i low)
+      let low : i < k = rw (length-part (splice b o xs) (o + p) k fits') at hi in
+      getD-part (splice b o xs) (o + p) k i low ∙ rw add-assoc (splice-inside (p + i) (omega arith)) ∙ sym (getD-part xs p k i low))
 
 -- an empty run changes nothing
 pub splice-nil : (b : List ℕ) (o : ℕ) → splice b o [] ≡ b
@@ -256,3 +257,17 @@ below-splice m b o xs fits hb hx =
         let e : getD (splice b o xs) i 0 ≡ getD xs (i - o) 0 = ap (λ (r : ℕ). getD (splice b o xs) r 0) (sym q) ∙ splice-inside b o xs fits (i - o) (omega arith) in
         rw e (hx .each (i - o) (omega arith))
     at i hi (inr high) (inr past) = rw (splice-above b o xs fits i past) (hb .each i hi)
+
+pub below-append : (m : ℕ) (xs ys : List ℕ) → Below m xs → Below m ys → Below m (xs ++ ys)
+below-append m xs ys hx hy = record { each = λ i hi. at i (rw length-append at hi) (below-or i (length xs)) }
+  where
+    at : (i : ℕ) → i < length xs + length ys → (i < length xs) ⊎ (length xs ≤ i) → getD (xs ++ ys) i 0 < m
+    at i hi (inl low) = rw (List·getD-append xs ys 0 i low) (hx .each i low)
+    at i hi (inr high) =
+        let q : length xs + (i - length xs) ≡ i = omega arith in
+        let e : getD (xs ++ ys) i 0 ≡ getD ys (i - length xs) 0 = ap (λ (k : ℕ). getD (xs ++ ys) k 0) (sym q) ∙ getD-append-add xs ys (i - length xs) 0 in
+        rw e (hy .each (i - length xs) (omega arith))
+
+pub below-replicate : (m n v : ℕ) → v < m → Below m (replicate n v)
+below-replicate m n v h =
+    record { each = λ i hi. let l : i < n = rw (lib.ListN.length-replicate {A = ℕ} n v) at hi in rw (lib.ListN.getD-replicate n i v 0 l) h }
