@@ -11,11 +11,15 @@ use header::Header;
 use header::Numbered;
 use header::Version;
 ghost use mathlib.Core.Path.{_≡_};
+ghost use mathlib.Core.Bool.{true};
 ghost use lib.ListN.{length};
+ghost use Rattle.header.specs.Write.{writeNo};
+ghost use Rattle.replay.specs.Records.{ReadAgrees, WriteAgrees, before, after as afterOf};
 
 // Whether the reader gives the number and the words of an R record: the slice from 8 on, the words from 552 on.
 fn same_read(case: &[u8]) -> bool
     requires { ⌜ length (now case) ≡ 1024 ⌝ }
+    ensures { λ r. ⌜ (r ≡ true → ReadAgrees (now (case .entry))) ⌝ }
 {
     let len = length_in(case);
     if 544 < len {
@@ -36,7 +40,9 @@ fn same_read(case: &[u8]) -> bool
 }
 
 // Puts what a W record's buffer holds before the call: 7 i + 3 at each place i, without what does not fit.
-fn put_before(buf: &mut [u8]) {
+fn put_before(buf: &mut [u8])
+    ensures { λ _. ⌜ now (buf .exit) ≡ before (length (now (buf .entry))) ⌝ }
+{
     let mut v: u8 = 3;
     let mut i = 0;
     while i < buf.len() {
@@ -47,7 +53,9 @@ fn put_before(buf: &mut [u8]) {
 }
 
 // Whether writing a header gives a number and leaves certain bytes.
-fn written_as(h: Header, buf: &mut [u8], number: u32, after: &[u8]) -> bool {
+fn written_as(h: Header, buf: &mut [u8], number: u32, after: &[u8]) -> bool
+    ensures { λ r. ⌜ (r ≡ true → (writeNo h (length (now (buf .entry))) ≡ number) × (afterOf h (length (now (buf .entry))) ≡ now (after .entry))) ⌝ }
+{
     put_before(buf);
     let verdict = h.write_to(buf);
     if verdict.number() != number {
@@ -59,6 +67,7 @@ fn written_as(h: Header, buf: &mut [u8], number: u32, after: &[u8]) -> bool {
 // Whether the writer gives the number and the bytes of a W record: the words from 8 on, the bytes from 476 on.
 fn same_write(case: &[u8]) -> bool
     requires { ⌜ length (now case) ≡ 1024 ⌝ }
+    ensures { λ r. ⌜ (r ≡ true → WriteAgrees (now (case .entry))) ⌝ }
 {
     let len = length_in(case);
     if 540 < len {

@@ -3,9 +3,11 @@ use header::Header;
 use header::Validation;
 use header::Version;
 ghost use mathlib.Core.Path.{_≡_};
+ghost use mathlib.Core.Bool.{true};
 ghost use Prim.Native.Nat.{_*_, _≤_};
 ghost use lib.ListN.{length};
 ghost use Rattle.lists.specs.Lists.{sameList};
+ghost use Rattle.replay.specs.Records.{lengthIn, numberIn, modeIn, numbersIn, headerIn, SameFields};
 
 // The bytes of a record.
 pub(crate) const RECORD: usize = 1024;
@@ -13,6 +15,7 @@ pub(crate) const RECORD: usize = 1024;
 // The length of what a record lends: bytes 2 and 3.
 pub(crate) fn length_in(case: &[u8]) -> usize
     requires { ⌜ length (now case) ≡ 1024 ⌝ }
+    ensures { λ r. ⌜ r ≡ lengthIn (now (case .entry)) ⌝ }
 {
     words::read16(case, 2) as usize
 }
@@ -20,6 +23,7 @@ pub(crate) fn length_in(case: &[u8]) -> usize
 // The answer's number: byte 4.
 pub(crate) fn number_in(case: &[u8]) -> u32
     requires { ⌜ length (now case) ≡ 1024 ⌝ }
+    ensures { λ r. ⌜ r ≡ numberIn (now (case .entry)) ⌝ }
 {
     case[4] as u32
 }
@@ -27,6 +31,7 @@ pub(crate) fn number_in(case: &[u8]) -> u32
 // The mode: byte 1, where 0 is permissive.
 pub(crate) fn mode_in(case: &[u8]) -> Validation
     requires { ⌜ length (now case) ≡ 1024 ⌝ }
+    ensures { λ r. ⌜ r ≡ modeIn (now (case .entry)) ⌝ }
 {
     if case[1] == 0 {
         return Validation::Permissive;
@@ -37,6 +42,7 @@ pub(crate) fn mode_in(case: &[u8]) -> Validation
 // Takes as many numbers of four bytes as `numbers` has places.
 pub(crate) fn take_numbers(held: &[u8], numbers: &mut [u32])
     requires { ⌜ 4 * length (now numbers) ≤ length (now held) ⌝ }
+    ensures { λ _. ⌜ now (numbers .exit) ≡ numbersIn (now (held .entry)) (length (now (numbers .entry))) ⌝ }
 {
     let mut i = 0;
     while i < numbers.len() {
@@ -48,6 +54,7 @@ pub(crate) fn take_numbers(held: &[u8], numbers: &mut [u32])
 // The header that 117 words hold beside a version.
 pub(crate) fn header_in(version: Version, held: &[u8]) -> Header
     requires { ⌜ length (now held) ≡ 468 ⌝ }
+    ensures { λ r. ⌜ r ≡ headerIn version (now (held .entry)) ⌝ }
 {
     let mut list = [0u32; 109];
     take_numbers(&held[32..468], &mut list);
@@ -83,7 +90,9 @@ fn same_numbers(a: &[u32], b: &[u32]) -> bool
 }
 
 // Whether two headers agree in their eight numbers.
-fn same_fields(a: Header, b: Header) -> bool {
+fn same_fields(a: Header, b: Header) -> bool
+    ensures { λ r. ⌜ (r ≡ true → SameFields a b) ⌝ }
+{
     let v = a.version;
     let w = b.version;
     if v.number() != w.number() {
@@ -111,7 +120,9 @@ fn same_fields(a: Header, b: Header) -> bool {
 }
 
 // Whether two headers are the same.
-pub(crate) fn same_header(a: Header, b: Header) -> bool {
+pub(crate) fn same_header(a: Header, b: Header) -> bool
+    ensures { λ r. ⌜ (r ≡ true → a ≡ b) ⌝ }
+{
     if !same_fields(a, b) {
         return false;
     }
