@@ -1,0 +1,4 @@
+pub mod Naming
+pub mod Placing
+pub mod Answers
+pub mod Again

@@ -1,0 +1,85 @@
+// The functions that C and Rust call: each takes what it is lent apart, calls the proved library, and gives numbers.
+// None asks anything of its caller: every number and every slice has an answer.
+mod items;
+mod layout;
+
+use header::Header;
+use header::Numbered;
+use header::Version;
+use items::item_named;
+use items::item_numbers;
+use items::named_text;
+use items::number_of_item;
+use items::number_of_kind;
+use layout::header_with;
+use layout::mode_of;
+use layout::words_of;
+ghost use mathlib.Core.Path.{_≡_};
+ghost use lib.ListN.{length};
+ghost use Rattle.consts.specs.Kinds.{kindOf};
+ghost use Rattle.consts.specs.Pretty.{itemAt};
+ghost use Rattle.header.specs.Read.{readNo};
+ghost use Rattle.export.specs.Items.{kindNumber, itemNumber, itemNumbers, namedOf, namedText};
+ghost use Rattle.export.specs.Layout.{modeOf, wordsOf, headerLeft, writtenNo, bytesLeft};
+
+// Reads a header: 0, or the number of the refusal; `words` then hold the header, or what stands beside the refusal. Mode 0 is permissive.
+#[no_mangle]
+pub extern "C" fn rasuvelk_read_header(bytes: &[u8], mode: u32, words: &mut [u32; 117]) -> u32
+    ensures { λ r. ⌜ r ≡ readNo (modeOf mode) (now (bytes .entry)) ⌝ }
+    ensures { λ _. ⌜ now (words .exit) ≡ wordsOf (headerLeft (modeOf mode) (now (bytes .entry))) ⌝ }
+{
+    let read = Header::read_from(bytes, mode_of(mode));
+    let header = read.header;
+    let held = words_of(header);
+    *words = held;
+    let verdict = read.verdict;
+    verdict.number()
+}
+
+// Writes a header over the first 512 bytes: 0, or the number of the refusal, which leaves every byte. A version that is none is judged first.
+#[no_mangle]
+pub extern "C" fn rasuvelk_write_header(words: &[u32; 117], buf: &mut [u8]) -> u32
+    ensures { λ r. ⌜ r ≡ writtenNo (now (words .entry)) (length (now (buf .entry))) ⌝ }
+    ensures { λ _. ⌜ now (buf .exit) ≡ bytesLeft (now (words .entry)) (now (buf .entry)) ⌝ }
+{
+    let numbered = Version::from_number(words[0]);
+    let Numbered::Known(version) = numbered else {
+        return 4;
+    };
+    let held = *words;
+    let header = header_with(version, held);
+    let verdict = header.write_to(buf);
+    verdict.number()
+}
+
+// The kind of an entry: 0 regular, 1 reserved, 2 DIFAT, 3 FAT, 4 END, 5 FREE.
+#[no_mangle]
+pub extern "C" fn rasuvelk_kind_of(entry: u32) -> u32
+    ensures { λ r. ⌜ r ≡ kindNumber (kindOf entry) ⌝ }
+{
+    number_of_kind(consts::kind_of(entry))
+}
+
+// The item that begins at `at`: its number, 0 where none does; its two numbers and the place past it are left in `item`.
+#[no_mangle]
+pub extern "C" fn rasuvelk_prettify(sectors: &[u32], at: usize, item: &mut [u64; 3]) -> u32
+    ensures { λ r. ⌜ r ≡ itemNumber (itemAt (now (sectors .entry)) at) ⌝ }
+    ensures { λ _. ⌜ now (item .exit) ≡ itemNumbers (itemAt (now (sectors .entry)) at) ⌝ }
+{
+    let found = consts::prettify(sectors, at);
+    let numbers = item_numbers(found);
+    *item = numbers;
+    number_of_item(found)
+}
+
+// The length of an item's text; the text is left in `out`, and zeros after it. No item has no text.
+#[no_mangle]
+pub extern "C" fn rasuvelk_sector_text(kind: u32, a: u64, b: u64, out: &mut [u8; 32]) -> usize
+    ensures { λ r. ⌜ r ≡ namedText (namedOf kind a b) .len ⌝ }
+    ensures { λ _. ⌜ now (out .exit) ≡ namedText (namedOf kind a b) .bytes ⌝ }
+{
+    let text = named_text(item_named(kind, a, b));
+    let bytes = text.bytes;
+    *out = bytes;
+    text.len
+}
