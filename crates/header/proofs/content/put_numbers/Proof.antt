@@ -1,5 +1,6 @@
+use mathlib.Core.Path.{refl}
 use Rattle.header.proofs.Writing.{numbers-stored}
-use borrow.Author.Needs.{needs}
+use native.Mathlib.Omega.{arith}
 use Rattle.header.proofs.content.put_numbers.Statement.{statement}
 use Rattle.header.proofs.content.put_numbers.Tie as tie
 
@@ -35,34 +36,34 @@ abbrev at-entry : tie.After-slice-known10 → tie.Start
 at-entry c = at1 c .before .before .before
 
 put-number-requires : tie.Need-put-number-requires
-put-number-requires c κs = search needs
+put-number-requires c κs = (omega arith, refl)
 
 put-number-requires-2 : tie.Need-put-number-requires-2
-put-number-requires-2 c κs = search needs
+put-number-requires-2 c κs = (omega arith, refl)
 
 put-number-requires-3 : tie.Need-put-number-requires-3
-put-number-requires-3 c κs = search needs
+put-number-requires-3 c κs = (omega arith, refl)
 
 put-number-requires-4 : tie.Need-put-number-requires-4
-put-number-requires-4 c κs = search needs
+put-number-requires-4 c κs = (omega arith, refl)
 
 put-number-requires-5 : tie.Need-put-number-requires-5
-put-number-requires-5 c κs = search needs
+put-number-requires-5 c κs = (omega arith, refl)
 
 put-number-requires-6 : tie.Need-put-number-requires-6
-put-number-requires-6 c κs = search needs
+put-number-requires-6 c κs = (omega arith, refl)
 
 put-number-requires-7 : tie.Need-put-number-requires-7
-put-number-requires-7 c κs = search needs
+put-number-requires-7 c κs = (omega arith, refl)
 
 put-number-requires-8 : tie.Need-put-number-requires-8
-put-number-requires-8 c κs = search needs
+put-number-requires-8 c κs = (omega arith, refl)
 
 put-number-requires-9 : tie.Need-put-number-requires-9
-put-number-requires-9 c κs = search needs
+put-number-requires-9 c κs = (omega arith, refl)
 
 same-length : tie.Need-same-length
-same-length c = search needs
+same-length c = omega arith
 
 returns : tie.Need-returns
 returns c =

@@ -1,5 +1,6 @@
+use mathlib.Core.Path.{refl}
 use Rattle.header.proofs.Writing.{start-stored}
-use borrow.Author.Needs.{needs}
+use native.Mathlib.Omega.{arith}
 use Rattle.header.proofs.content.put_start.Statement.{statement}
 use Rattle.header.proofs.content.put_start.Tie as tie
 
@@ -32,46 +33,46 @@ abbrev at-entry : tie.After-slice-known9 → tie.Start
 at-entry c = at1 c .before .before .before
 
 put-signature-requires : tie.Need-put-signature-requires
-put-signature-requires c κs = search needs
+put-signature-requires c κs = omega arith
 
 put-zeros-requires : tie.Need-put-zeros-requires
-put-zeros-requires c κs = search needs
+put-zeros-requires c κs = omega arith
 
 cast-put-number : tie.Need-cast-put-number
-cast-put-number c = search needs
+cast-put-number c = omega arith
 
 put-number-requires : tie.Need-put-number-requires
-put-number-requires c κs = search needs
+put-number-requires c κs = (omega arith, refl)
 
 number-requires : tie.Need-number-requires
-number-requires c κs = search needs
+number-requires c κs = omega arith
 
 put-number-requires-2 : tie.Need-put-number-requires-2
-put-number-requires-2 c κs = search needs
+put-number-requires-2 c κs = (omega arith, refl)
 
 cast-put-number-2 : tie.Need-cast-put-number-2
-cast-put-number-2 c = search needs
+cast-put-number-2 c = omega arith
 
 put-number-requires-3 : tie.Need-put-number-requires-3
-put-number-requires-3 c κs = search needs
+put-number-requires-3 c κs = (omega arith, refl)
 
 sector-shift-requires : tie.Need-sector-shift-requires
-sector-shift-requires c κs = search needs
+sector-shift-requires c κs = omega arith
 
 put-number-requires-4 : tie.Need-put-number-requires-4
-put-number-requires-4 c κs = search needs
+put-number-requires-4 c κs = (omega arith, refl)
 
 cast-put-number-3 : tie.Need-cast-put-number-3
-cast-put-number-3 c = search needs
+cast-put-number-3 c = omega arith
 
 put-number-requires-5 : tie.Need-put-number-requires-5
-put-number-requires-5 c κs = search needs
+put-number-requires-5 c κs = (omega arith, refl)
 
 put-zeros-requires-2 : tie.Need-put-zeros-requires-2
-put-zeros-requires-2 c κs = search needs
+put-zeros-requires-2 c κs = omega arith
 
 same-length : tie.Need-same-length
-same-length c = search needs
+same-length c = omega arith
 
 returns : tie.Need-returns
 returns c =
