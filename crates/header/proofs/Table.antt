@@ -2,16 +2,16 @@
 use Prim.Native.Nat.{ℕ, _+_, _-_, _≤_, _<_}
 use mathlib.Core.Path.{_≡_, refl, sym, ap, _∙_}
 use mathlib.Core.Bool.{Bool, true, false, not}
-use mathlib.Core.List.{List, [], _++_}
+use mathlib.Core.List.{List}
 use mathlib.Core.Logic.{_⊎_, inl, inr, ⊎-elim}
 use native.Mathlib.Omega.{arith}
 use borrow.Author.Tests.{eqb-true, leb-true, ltb-true}
 use borrow.Rule.Slice.PartMut.{putMid}
 use lib.Dec.{eqb, leb, ltb}
-use lib.ListN.{length, take, drop, replicate, length-take, length-drop, length-replicate, drop-of-length-le}
-use Rattle.lists.specs.Lists.{both, either, every, splice}
+use lib.ListN.{length, take, drop, replicate, length-take, length-drop, length-replicate}
+use Rattle.lists.specs.Lists.{both, either, every, splice, part}
 use Rattle.lists.proofs.Cases.{both-left, either-cases, every-at, not-both}
-use Rattle.lists.proofs.Splice.{putMid-splice}
+use Rattle.lists.proofs.Splice.{putMid-splice, splice-whole, length-part}
 use Rattle.words.specs.Words.{le, digits}
 use Rattle.consts.specs.Consts.{signature}
 use Rattle.header.specs.Fields.{offsetOf, widthOf, holdsNumber, numberAt}
@@ -66,12 +66,22 @@ number-is b i w e = ap (λ (k : ℕ). le k b (offsetOf i)) (sym e)
 pub stored-is : (b : List ℕ) (i w v : ℕ) → widthOf i ≡ w → splice b (offsetOf i) (digits w v) ≡ splice b (offsetOf i) (digits (widthOf i) v)
 stored-is b i w v e = ap (λ (k : ℕ). splice b (offsetOf i) (digits k v)) (sym e)
 
--- a field that was lent as a part and came back as zeros
-pub zeros-stored : (b last : List ℕ) (i : ℕ) → i < 18 → 512 ≤ length b → last ≡ replicate (length (take (offsetOf i + widthOf i - offsetOf i) (drop (offsetOf i) b))) 0
-    → putMid (offsetOf i) (offsetOf i + widthOf i - offsetOf i) b last ≡ splice b (offsetOf i) (replicate (widthOf i) 0)
-zeros-stored b last i h whole e = lent-zeros b last (offsetOf i) (widthOf i) (omega (arith, field-ends i h)) e
+-- a field that was lent as a part, from o on and w bytes long as its row says, and came back as zeros
+pub zeros-stored : (b last : List ℕ) (i o w : ℕ) → i < 18 → 512 ≤ length b → o ≡ offsetOf i → w ≡ widthOf i → last ≡ replicate (length (take (o + w - o) (drop o b))) 0
+    → putMid o (o + w - o) b last ≡ splice b (offsetOf i) (replicate (widthOf i) 0)
+zeros-stored b last i o w h whole eo ew e =
+    lent-zeros b last o w (omega (arith, field-ends i h)) e ∙ ap (λ (k : ℕ). splice b k (replicate w 0)) eo ∙ ap (λ (k : ℕ). splice b (offsetOf i) (replicate k 0)) ew
+
+-- a part that was lent, from o on and w bytes long
+pub part-lent : (b : List ℕ) (o w at width : ℕ) → o ≡ at → w ≡ width → take (o + w - o) (drop o b) ≡ part b at width
+unfolding part
+part-lent b o w at width eo ew = let k : o + w - o ≡ width = omega arith in rw (k, eo)
 
 -- the signature's field, lent as a part and copied over
-pub signature-stored : (b last : List ℕ) → 512 ≤ length b → last ≡ splice (take 8 b) 0 signature → last ++ drop 8 b ≡ splice b 0 signature
-unfolding splice
-signature-stored b last h e = rw (e, drop-of-length-le (take 8 b) {i = 8} (simp length-take (omega arith)))
+pub signature-stored : (b last : List ℕ) (o w : ℕ) → 512 ≤ length b → o ≡ 0 → w ≡ 8 → last ≡ splice (take (o + w - o) (drop o b)) 0 signature
+    → putMid o (o + w - o) b last ≡ splice b 0 signature
+signature-stored b last o w h eo ew e =
+    let k : o + w - o ≡ 8 = omega arith in
+    let l : length (part b 0 8) ≡ 8 = length-part b 0 8 (omega arith) in
+    let z : last ≡ signature = e ∙ ap (λ (p : List ℕ). splice p 0 signature) (part-lent b o w 0 8 eo ew) ∙ splice-whole (part b 0 8) signature (sym l) in
+    rw (k, z, eo) (putMid-splice 0 8 b signature refl)

@@ -142,7 +142,7 @@ unfoldable pub allFree : List ℕ → Bool
 allFree [] = true
 allFree (x ∷ xs) = both (eqb x freeSector) (allFree xs)
 
--- MS-CFB 2.5.1, document 01's 9: sector numbers, and then FREE to the end
+-- MS-CFB 2.5, document 01's 9: sector numbers, and then FREE to the end
 unfoldable pub idsThenFree : List ℕ → Bool
 unfolding idsIn allFree
 idsThenFree xs = allFree (drop (idsIn xs) xs)

@@ -1,6 +1,6 @@
-// The 109 entries of the DIFAT that a header holds (MS-CFB 2.2 and 2.5.1).
+// The 109 entries of the DIFAT that a header holds (MS-CFB 2.2 and 2.5).
 use crate::fields::ENTRIES;
-use crate::fields::FIELDS;
+use crate::fields::row;
 ghost use mathlib.Core.Path.{_≡_};
 ghost use Prim.Native.Nat.{_≤_};
 ghost use lib.ListN.{length};
@@ -13,7 +13,7 @@ pub(crate) fn read_list(b: &[u8]) -> [u32; 109]
     requires { ⌜ 512 ≤ length (now b) ⌝ }
     ensures { λ r. ⌜ r ≡ listOf (now (b .entry)) ⌝ }
 {
-    let f = FIELDS[ENTRIES];
+    let f = row(ENTRIES);
     let at = f.at;
     let mut list = [0u32; 109];
     let mut i = 0;
@@ -30,7 +30,7 @@ pub(crate) fn put_list(buf: &mut [u8], list: &[u32])
     requires { ⌜ length (now list) ≡ 109 ⌝ }
     ensures { λ _. ⌜ now (buf .exit) ≡ splice (now (buf .entry)) (offsetOf entriesAt) (listBytes (now (list .entry))) ⌝ }
 {
-    let f = FIELDS[ENTRIES];
+    let f = row(ENTRIES);
     let at = f.at;
     let mut i = 0;
     while i < 109 {

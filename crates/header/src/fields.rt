@@ -52,7 +52,7 @@ pub(crate) const DIFATS: usize = 16;
 pub(crate) const ENTRIES: usize = 17;
 
 // The table of fields that the reader and the writer go by; the last is the first of the 109 entries.
-pub(crate) const FIELDS: [Field; 18] = [
+const FIELDS: [Field; 18] = [
     Field { at: 0, width: 8 },
     Field { at: 8, width: 16 },
     Field { at: 24, width: 2 },
@@ -73,13 +73,21 @@ pub(crate) const FIELDS: [Field; 18] = [
     Field { at: 76, width: 4 },
 ];
 
+// A row of the table, by the field's place. Nothing else looks into the table.
+pub(crate) fn row(place: usize) -> Field
+    requires { ⌜ place < 18 ⌝ }
+    ensures { λ r. ⌜ (r .at ≡ offsetOf place) × (r .width ≡ widthOf place) ⌝ }
+{
+    FIELDS[place]
+}
+
 // The number in a field of a whole header, by the field's place in the table.
 pub(crate) fn number_at(b: &[u8], place: usize) -> u32
     requires { ⌜ 512 ≤ length (now b) ⌝ }
     requires { ⌜ holdsNumber place ≡ true ⌝ }
     ensures { λ r. ⌜ r ≡ numberAt (now (b .entry)) place ⌝ }
 {
-    let f = FIELDS[place];
+    let f = row(place);
     let at = f.at;
     let w = f.width;
     if w == 2 {
@@ -95,7 +103,7 @@ pub(crate) fn put_number(buf: &mut [u8], place: usize, v: u32)
     requires { ⌜ holdsNumber place ≡ true ⌝ }
     ensures { λ _. ⌜ now (buf .exit) ≡ splice (now (buf .entry)) (offsetOf place) (digits (widthOf place) v) ⌝ }
 {
-    let f = FIELDS[place];
+    let f = row(place);
     let at = f.at;
     let w = f.width;
     if w == 2 {
@@ -111,7 +119,7 @@ pub(crate) fn put_zeros(buf: &mut [u8], place: usize)
     requires { ⌜ place < 18 ⌝ }
     ensures { λ _. ⌜ now (buf .exit) ≡ splice (now (buf .entry)) (offsetOf place) (replicate (widthOf place) 0) ⌝ }
 {
-    let f = FIELDS[place];
+    let f = row(place);
     let at = f.at;
     let end = at + f.width;
     words::fill(&mut buf[at..end], 0);
@@ -122,7 +130,7 @@ pub(crate) fn signed(b: &[u8]) -> bool
     requires { ⌜ 512 ≤ length (now b) ⌝ }
     ensures { λ r. ⌜ r ≡ sameList (part (now (b .entry)) 0 8) signature ⌝ }
 {
-    let f = FIELDS[SIGNATURE];
+    let f = row(SIGNATURE);
     let at = f.at;
     let end = at + f.width;
     words::same(&b[at..end], &consts::MAGIC_NUMBER)
@@ -133,7 +141,7 @@ pub(crate) fn put_signature(buf: &mut [u8])
     requires { ⌜ 512 ≤ length (now buf) ⌝ }
     ensures { λ _. ⌜ now (buf .exit) ≡ splice (now (buf .entry)) (offsetOf signatureAt) signature ⌝ }
 {
-    let f = FIELDS[SIGNATURE];
+    let f = row(SIGNATURE);
     let at = f.at;
     let end = at + f.width;
     words::copy(&consts::MAGIC_NUMBER, &mut buf[at..end]);

@@ -15,12 +15,12 @@ Inv-loop buf₀ list at i₀ buf i = (i ≤ 109) × (at ≡ 76) × (buf ≡ spli
 abbrev μ-loop : tie.MeasureT-loop
 μ-loop buf₀ list at i₀ buf i = 109 - i
 
-array-copy-out-f : tie.Need-array-copy-out-f Inv-loop μ-loop
-array-copy-out-f c = search needs
+row-requires : tie.Need-row-requires Inv-loop μ-loop
+row-requires c κs = omega arith
 
 loop-holds : tie.Need-loop-holds Inv-loop μ-loop
 loop-holds c =
-    (omega arith, refl, entries-none (c .before .before .before .args .buf .now) 76 (c .before .before .before .args .list .now), refl)
+    (omega arith, c .row .ensures .0, entries-none (c .before .before .before .args .buf .now) 76 (c .before .before .before .args .list .now), refl)
 
 mul-put32 : tie.Need-mul-put32 Inv-loop μ-loop
 mul-put32 c = omega arith
@@ -69,7 +69,7 @@ put-list-spec =
     (tie.spec
     Inv-loop
     μ-loop
-    array-copy-out-f
+    row-requires
     loop-holds
     mul-put32
     add-put32

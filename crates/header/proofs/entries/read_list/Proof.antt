@@ -17,11 +17,11 @@ Inv-loop b at list₀ i₀ list i = (i ≤ 109) × (at ≡ 76) × (list ≡ tab 
 abbrev μ-loop : tie.MeasureT-loop
 μ-loop b at list₀ i₀ list i = 109 - i
 
-array-copy-out-f : tie.Need-array-copy-out-f Inv-loop μ-loop
-array-copy-out-f c = search needs
+row-requires : tie.Need-row-requires Inv-loop μ-loop
+row-requires c κs = omega arith
 
 loop-holds : tie.Need-loop-holds Inv-loop μ-loop
-loop-holds c = (omega arith, refl, filled-none _ _)
+loop-holds c = (omega arith, c .row .ensures .0, filled-none _ _)
 
 mul-read32 : tie.Need-mul-read32 Inv-loop μ-loop
 mul-read32 c = omega arith
@@ -63,7 +63,7 @@ read-list-spec =
     (tie.spec
     Inv-loop
     μ-loop
-    array-copy-out-f
+    row-requires
     loop-holds
     mul-read32
     add-read32

@@ -3,8 +3,8 @@ use borrow.Author.Needs.{needs}
 use Rattle.header.proofs.fields.put_signature.Statement.{statement}
 use Rattle.header.proofs.fields.put_signature.Tie as tie
 
-array-copy-out-f : tie.Need-array-copy-out-f
-array-copy-out-f c = search needs
+row-requires : tie.Need-row-requires
+row-requires c κs = search needs
 
 add-end : tie.Need-add-end
 add-end c = search needs
@@ -29,13 +29,15 @@ same-length c = search needs
 
 returns : tie.Need-returns
 returns c =
-    signature-stored (c .before .before .before .before .before .before .before .before .args .buf .now) (c .before .before .copy .last .1 .0) (c .before .before .before .before .before .before .before .before .pre) (c .before .before .copy .ensures)
+    let r = c .before .before .before .before .before .before .row in
+    let g = c .before .before .before .before .before .before .before .before in
+    signature-stored (g .args .buf .now) (c .before .before .copy .last .1 .0) (r .result .at) (r .result .width) (g .pre) (r .ensures .0) (r .ensures .1) (c .before .before .copy .ensures)
 
 pub put-signature-spec : {M : Type 1} → statement M
 put-signature-spec =
     tie.close
     (tie.spec
-    array-copy-out-f
+    row-requires
     add-end
     slice-aggregate-copy
     sub-copy

@@ -1,17 +1,15 @@
+use mathlib.Core.Path.{_∙_, sym, ap}
 use native.Mathlib.Omega.{arith}
-use Rattle.header.proofs.Table.{field-ends, zeros-stored}
 use borrow.Author.Needs.{needs}
+use Rattle.header.proofs.Table.{field-ends, zeros-stored}
 use Rattle.header.proofs.fields.put_zeros.Statement.{statement}
 use Rattle.header.proofs.fields.put_zeros.Tie as tie
 
-mul-f : tie.Need-mul-f
-mul-f c = search needs
-
-array-copy-out-f : tie.Need-array-copy-out-f
-array-copy-out-f c = search needs
+row-requires : tie.Need-row-requires
+row-requires c κs = search needs
 
 add-end : tie.Need-add-end
-add-end c = omega (arith, field-ends (c .before .before .before .args .place) (c .before .before .before .pre .1))
+add-end c = let s = c .before .before .before in omega (arith, c .before .row .ensures, field-ends (s .args .place) (s .pre .1))
 
 sub-fill : tie.Need-sub-fill
 sub-fill c = search needs
@@ -20,7 +18,7 @@ part-fill-start : tie.Need-part-fill-start
 part-fill-start c = search needs
 
 part-fill-end : tie.Need-part-fill-end
-part-fill-end c = omega (arith, field-ends (c .before .before .before .args .place) (c .before .before .before .pre .1))
+part-fill-end c = let s = c .before .before .before in omega (arith, c .before .row .ensures, field-ends (s .args .place) (s .pre .1))
 
 fill-requires : tie.Need-fill-requires
 fill-requires c κs = search needs
@@ -30,15 +28,15 @@ same-length c = search needs
 
 returns : tie.Need-returns
 returns c =
+    let r = c .before .before .before .before .before .row in
     let g = c .before .before .before .before .before .before .before in
-    zeros-stored (g .args .buf .now) (c .before .before .fill .last .0) (g .args .place) (g .pre .1) (g .pre .0) (c .before .before .fill .ensures)
+    zeros-stored (g .args .buf .now) (c .before .before .fill .last .0) (g .args .place) (r .result .at) (r .result .width) (g .pre .1) (g .pre .0) (r .ensures .0) (r .ensures .1) (c .before .before .fill .ensures)
 
 pub put-zeros-spec : {M : Type 1} → statement M
 put-zeros-spec =
     tie.close
     (tie.spec
-    mul-f
-    array-copy-out-f
+    row-requires
     add-end
     sub-fill
     part-fill-start

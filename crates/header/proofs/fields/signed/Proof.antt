@@ -1,10 +1,15 @@
-use Rattle.lists.specs.Lists.{part}
+use mathlib.Core.Path.{_∙_, ap}
+use mathlib.Core.List.{List}
+use Prim.Native.Nat.{ℕ}
+use Rattle.lists.specs.Lists.{sameList}
+use Rattle.consts.specs.Consts.{signature}
+use Rattle.header.proofs.Table.{part-lent}
 use borrow.Author.Needs.{needs}
 use Rattle.header.proofs.fields.signed.Statement.{statement}
 use Rattle.header.proofs.fields.signed.Tie as tie
 
-array-copy-out-f : tie.Need-array-copy-out-f
-array-copy-out-f c = search needs
+row-requires : tie.Need-row-requires
+row-requires c κs = search needs
 
 add-end : tie.Need-add-end
 add-end c = search needs
@@ -25,14 +30,15 @@ same-requires : tie.Need-same-requires
 same-requires c κs = search needs
 
 returns : tie.Need-returns
-unfolding part
-returns c = c .same .ensures
+returns c =
+    let r = c .before .before .before .before .row in
+    c .same .ensures ∙ ap (λ (l : List ℕ). sameList l signature) (part-lent _ (r .result .at) (r .result .width) 0 8 (r .ensures .0) (r .ensures .1))
 
 pub signed-spec : {M : Type 1} → statement M
 signed-spec =
     tie.close
     (tie.spec
-    array-copy-out-f
+    row-requires
     add-end
     sub-same
     part-same-start
