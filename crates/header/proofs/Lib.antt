@@ -1,3 +1,4 @@
+pub mod Given
 pub mod Listed
 pub mod Reading
 pub mod RoundTrip

@@ -1,3 +1,4 @@
+pub mod Causes
 pub mod Fields
 pub mod Read
 pub mod Write
