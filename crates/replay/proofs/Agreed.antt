@@ -10,7 +10,7 @@ use Rattle.lists.specs.Lists.{choose, part, sameList, splice}
 use Rattle.lists.proofs.Splice.{sameList-true}
 use Rattle.words.specs.Words.{le}
 use Rattle.header.specs.Fields.{numberedOf}
-use Rattle.header.specs.Read.{readNumber, readNo, ReadSays}
+use Rattle.header.specs.Read.{readNumber, ReadSays}
 use Rattle.header.specs.Write.{writeNumber, writeNo, headerBytes, WriteSays}
 use Rattle.header.specs.declared.Version.{Version}
 use Rattle.header.specs.declared.Numbered.{Numbered}
@@ -19,7 +19,7 @@ use Rattle.header.specs.declared.Validation.{Validation}
 use Rattle.header.specs.declared.Header.{Header}
 use Rattle.header.specs.declared.Read.{Read}
 use Rattle.header.specs.declared.WriteVerdict.{WriteVerdict}
-use Rattle.replay.specs.Records.{lengthIn, numberIn, modeIn, headerIn, headerLeft, before, after, ReadAgrees, WriteAgrees}
+use Rattle.replay.specs.Records.{lengthIn, numberIn, modeIn, numbersIn, headerIn, headerLeft, before, after, ReadAgrees, WriteAgrees, ListedAs, ListAgrees}
 
 -- the bytes from o to the end o + k are a part
 pub part-between : (b : List ℕ) (o k : ℕ) → take (o + k - o) (drop o b) ≡ part b o k
@@ -44,11 +44,10 @@ read-agrees b {v} {r = r} named l e f says n k h =
 pub written-agrees : (h : Header) (n : ℕ) {buf left bytes : List ℕ} {verdict : WriteVerdict} {no : ℕ} → buf ≡ before n → length buf ≡ n → WriteSays h buf left verdict
     → writeNumber verdict ≡ no → sameList left bytes ≡ true → (writeNo h n ≡ no) × (after h n ≡ bytes)
 unfolding after
-written-agrees h n {left = left} {bytes = bytes} e l says k s =
-    (
-      sym (says .number ∙ ap (writeNo h) l) ∙ k,
-      sym (says .buffer ∙ ap₂ (λ (q : ℕ) (d : List ℕ). choose (eqb (writeNo h q) 0) (splice d 0 (headerBytes h)) d) l e) ∙ sameList-true left bytes s,
-    )
+written-agrees h n {left = left} {bytes = bytes} e l says k s = (
+  sym (says .number ∙ ap (writeNo h) l) ∙ k,
+  sym (says .buffer ∙ ap₂ (λ (q : ℕ) (d : List ℕ). choose (eqb (writeNo h q) 0) (splice d 0 (headerBytes h)) d) l e) ∙ sameList-true left bytes s,
+)
 
 -- a writing that gave the number and the bytes of the record
 pub write-agrees : (b : List ℕ) {v : Version} {len n no : ℕ} {h : Header} {bytes : List ℕ} → numberedOf (le 4 b 8) ≡ Known v → len ≡ lengthIn b → h ≡ headerIn v (part b 8 468)
@@ -56,3 +55,8 @@ pub write-agrees : (b : List ℕ) {v : Version} {len n no : ℕ} {h : Header} {b
 write-agrees b {v} named l e k q f w =
     let number : writeNo (headerIn v (part b 8 468)) (lengthIn b) ≡ numberIn b = rw (← e, ← l, ← q) (w .0 ∙ k) in
     record { version = v; named = named; number = number; bytes = rw (← e, ← l) (ap (after _) (sym q) ∙ w .1 ∙ f) }
+
+-- a short list that has the number and the lines of the record
+pub list-agrees : (b : List ℕ) {len no : ℕ} {xs : List ℕ} → len ≡ lengthIn b → xs ≡ numbersIn (part b 8 240) 60 → no ≡ numberIn b
+    → ListedAs (take len xs) (part b 248 776) no → ListAgrees b
+list-agrees b l e k listed = rw (← l, ← e, ← k) listed

@@ -1,15 +1,14 @@
 -- What a record holds, and how two headers are found to be the same. Assumes nothing.
 use Prim.Native.Nat.{ℕ, _+_, _*_, _%_, _^_, _≤_}
-use mathlib.Core.Path.{_≡_, refl, _∙_, sym, ap}
+use mathlib.Core.Path.{_≡_, refl, _∙_, sym}
 use mathlib.Core.Bool.{Bool, true, false, not}
 use mathlib.Core.List.{List, _++_, append-nil}
 use mathlib.Core.Logic.{_≢_}
 use native.Mathlib.Omega.{arith}
 use borrow.Author.Tests.{eq-eqb, ne-eqb}
 use lib.ListN.{length, getD, drop, drop-of-length-le}
-use Rattle.lists.specs.Lists.{tab, sameList}
+use Rattle.lists.specs.Lists.{tab}
 use Rattle.lists.proofs.Cases.{not-both}
-use Rattle.lists.proofs.Splice.{sameList-true}
 use Rattle.header.specs.Fields.{majorOf}
 use Rattle.header.specs.declared.Version.{Version}
 use Rattle.header.specs.declared.Version.the-variants.{V3, V4}

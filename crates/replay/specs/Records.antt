@@ -1,9 +1,9 @@
 -- What it is for the library to agree with a record of the list: 1,024 bytes that hold one call and its answer. Assumes nothing.
-use Prim.Native.Nat.{ℕ, _+_, _-_, _*_, _%_, _≤_}
+use Prim.Native.Nat.{ℕ, _+_, _*_, _%_, _≤_}
 use mathlib.Core.Path.{_≡_}
-use mathlib.Core.List.{List, [], _∷_, _++_}
+use mathlib.Core.List.{List, [], _∷_}
 use lib.Dec.{eqb}
-use lib.ListN.{length, getD, take, replicate}
+use lib.ListN.{length, getD, take}
 use Rattle.lists.specs.Lists.{choose, tab, part, splice}
 use Rattle.words.specs.Words.{le}
 use Rattle.consts.specs.Pretty.{prettifyOf}
@@ -87,3 +87,29 @@ pub record WriteAgrees (b : List ℕ) : Type 0 where
   pub named : numberedOf (le 4 b 8) ≡ Known version
   pub number : writeNo (headerIn version (part b 8 468)) (lengthIn b) ≡ numberIn b
   pub bytes : after (headerIn version (part b 8 468)) (lengthIn b) ≡ part b 476 (lengthIn b)
+
+-- a text and a line feed stand in held from p on, and q is the place past them
+pub record LineAt (held : List ℕ) (p : ℕ) (text : List ℕ) (q : ℕ) : Type 0 where
+  pub bytes : part held p (length text) ≡ text
+  pub feed : getD held (p + length text) 0 ≡ 10
+  pub past : q ≡ p + length text + 1
+
+-- the lines of the items stand in held from p on, and then zeros
+unfoldable pub Lines : List ℕ → ℕ → List Sector → Type 0
+Lines held p [] = (i : ℕ) → p ≤ i → getD held i 0 ≡ 0
+Lines held p (s ∷ ss) = LineAt held p (textOf s) (p + length (textOf s) + 1) × Lines held (p + length (textOf s) + 1) ss
+
+-- the short list of the entries has n items, and held has their lines
+pub record ListedAs (xs held : List ℕ) (n : ℕ) : Type 0 where
+  pub number : length (prettifyOf xs) ≡ n
+  pub text : Lines held 0 (prettifyOf xs)
+
+-- the short list has the items and the lines of the record
+abbrev pub ListAgrees : List ℕ → Type 0
+ListAgrees b = ListedAs (take (lengthIn b) (numbersIn (part b 8 240) 60)) (part b 248 776) (numberIn b)
+
+-- the library agrees with the record, by its kind: R, W or P
+pub data Agrees (b : List ℕ) : Type 0 where
+  reads : getD b 0 0 ≡ 82 → ReadAgrees b → Agrees b
+  writes : getD b 0 0 ≡ 87 → WriteAgrees b → Agrees b
+  lists : getD b 0 0 ≡ 80 → ListAgrees b → Agrees b

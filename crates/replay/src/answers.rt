@@ -12,9 +12,10 @@ use header::Numbered;
 use header::Version;
 ghost use mathlib.Core.Path.{_≡_};
 ghost use mathlib.Core.Bool.{true};
-ghost use lib.ListN.{length};
+ghost use Prim.Native.Nat.{ℕ, _≤_};
+ghost use lib.ListN.{length, getD, take};
 ghost use Rattle.header.specs.Write.{writeNo};
-ghost use Rattle.replay.specs.Records.{ReadAgrees, WriteAgrees, before, after as afterOf};
+ghost use Rattle.replay.specs.Records.{ReadAgrees, WriteAgrees, ListAgrees, Agrees, LineAt, ListedAs, before, after as afterOf};
 
 // Whether the reader gives the number and the words of an R record: the slice from 8 on, the words from 552 on.
 fn same_read(case: &[u8]) -> bool
@@ -90,7 +91,9 @@ enum Line {
 }
 
 // The place past a text and a line feed, if they stand in `held` from `at` on; the text is the first `len` bytes.
-fn line_at(held: &[u8], at: usize, bytes: [u8; 32], len: usize) -> Line {
+fn line_at(held: &[u8], at: usize, bytes: [u8; 32], len: usize) -> Line
+    ensures { λ r. ⌜ ((q : ℕ) → r ≡ Line.Past q → LineAt (now (held .entry)) at (take len bytes) q) ⌝ }
+{
     if 32 < len {
         return Line::Other;
     }
@@ -111,7 +114,9 @@ fn line_at(held: &[u8], at: usize, bytes: [u8; 32], len: usize) -> Line {
 }
 
 // Whether nothing but zeros stands in `held` from `at` on.
-fn only_zeros(held: &[u8], at: usize) -> bool {
+fn only_zeros(held: &[u8], at: usize) -> bool
+    ensures { λ r. ⌜ (r ≡ true → (i : ℕ) → at ≤ i → getD (now (held .entry)) i 0 ≡ 0) ⌝ }
+{
     let mut i = at;
     while i < held.len() {
         if held[i] != 0 {
@@ -123,7 +128,9 @@ fn only_zeros(held: &[u8], at: usize) -> bool {
 }
 
 // Whether the items of the entries are so many, and their lines are all that `held` has.
-fn same_items(sectors: &[u32], held: &[u8], number: u32) -> bool {
+fn same_items(sectors: &[u32], held: &[u8], number: u32) -> bool
+    ensures { λ r. ⌜ (r ≡ true → ListedAs (now (sectors .entry)) (now (held .entry)) number) ⌝ }
+{
     let mut at = 0;
     let mut past = 0;
     let mut items: u32 = 0;
@@ -151,6 +158,7 @@ fn same_items(sectors: &[u32], held: &[u8], number: u32) -> bool {
 // Whether the short list has the items and the text of a P record: the entries from 8 on, the text from 248 on.
 fn same_list(case: &[u8]) -> bool
     requires { ⌜ length (now case) ≡ 1024 ⌝ }
+    ensures { λ r. ⌜ (r ≡ true → ListAgrees (now (case .entry))) ⌝ }
 {
     let len = length_in(case);
     if 60 < len {
@@ -162,7 +170,9 @@ fn same_list(case: &[u8]) -> bool
 }
 
 // Whether the library gives the answer that a record holds. What is no record, or of no known kind, differs.
-pub(crate) fn same_answer(case: &[u8]) -> bool {
+pub(crate) fn same_answer(case: &[u8]) -> bool
+    ensures { λ r. ⌜ (r ≡ true → Agrees (now (case .entry))) ⌝ }
+{
     if case.len() != RECORD {
         return false;
     }

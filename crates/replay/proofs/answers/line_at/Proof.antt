@@ -1,21 +1,31 @@
--- `answers::line_at` is safe: each part that it compares lies within what it is lent. Assumes nothing.
-use mathlib.Core.Path.{sym}
+-- `answers::line_at` meets its contract: the text was compared where it is to stand, and a line feed after it. Assumes nothing.
+use Rattle.replay.proofs.Held.{not-false}
+use Rattle.replay.proofs.Agreed.{part-between}
+use mathlib.Core.Path.{_∙_, sym}
 use lib.Seq.{length-take-le}
+use Rattle.replay.proofs.Lined.{no-line, line-stands}
 use borrow.Author.Needs.{needs}
 use Rattle.replay.proofs.answers.line_at.Statement.{statement}
 use Rattle.replay.proofs.answers.line_at.Tie as tie
 
+-- the places of the comparison and of the start, which lie far back
+abbrev at-same : tie.Else5 → tie.After-same
+at-same c = c .before .before .before
+
+abbrev at-start : tie.Else5 → tie.Start
+at-start c = at-same c .before .before .before .before .before .before .before
+
 returns : tie.Need-returns
-returns c = search needs
+returns c = λ q e. no-line q e
 
 returns-2 : tie.Need-returns-2
-returns-2 c = search needs
+returns-2 c = λ q e. no-line q e
 
 sub-if3 : tie.Need-sub-if3
 sub-if3 c = search needs
 
 returns-3 : tie.Need-returns-3
-returns-3 c = search needs
+returns-3 c = λ q e. no-line q e
 
 add-end : tie.Need-add-end
 add-end c = search needs
@@ -39,19 +49,22 @@ same-requires : tie.Need-same-requires
 same-requires c κs = search needs
 
 returns-4 : tie.Need-returns-4
-returns-4 c = search needs
+returns-4 c = λ q e. no-line q e
 
 shared-slice-read-if5 : tie.Need-shared-slice-read-if5
 shared-slice-read-if5 c = search needs
 
 returns-5 : tie.Need-returns-5
-returns-5 c = search needs
+returns-5 c = λ q e. no-line q e
 
 add-t9 : tie.Need-add-t9
 add-t9 c = search needs
 
 returns-6 : tie.Need-returns-6
-returns-6 c = search needs
+returns-6 c =
+    let given = at-start c .args in
+    line-stands (given .held .now) (given .t3) (given .at) (given .len) (search needs) (part-between (given .held .now) (given .at) (given .len))
+    (sym (at-same c .same .ensures) ∙ not-false _ (c .before .before .if4 .left)) (c .if5 .left)
 
 pub line-at-spec : {M : Type 1} → statement M
 line-at-spec =

@@ -1,24 +1,27 @@
--- `answers::only_zeros` is safe and ends: what is left of the bytes falls at each turn. Assumes nothing.
-use Prim.Native.Nat.{_-_}
+-- `answers::only_zeros` meets its contract: so far every byte from `at` on is zero. Assumes nothing.
+use Prim.Native.Nat.{ℕ, _-_, _≤_, _<_}
+use mathlib.Core.Path.{_≡_}
 use native.Mathlib.Omega.{arith}
-use lib.ListN.{length}
+use lib.ListN.{length, getD}
+use Rattle.replay.proofs.Held.{never}
+use Rattle.replay.proofs.Lined.{zeros-more, zeros-all}
 use Rattle.replay.proofs.answers.only_zeros.Statement.{statement}
 use Rattle.replay.proofs.answers.only_zeros.Tie as tie
 
 abbrev Inv-loop : tie.InvT-loop
-Inv-loop held at i₀ i = Unit {0}
+Inv-loop held at i₀ i = (at ≤ i) × ((k : ℕ) → at ≤ k → k < i → getD held k 0 ≡ 0)
 
 abbrev μ-loop : tie.MeasureT-loop
 μ-loop held at i₀ i = length held - i
 
 loop-holds : tie.Need-loop-holds Inv-loop μ-loop
-loop-holds c = tt
+loop-holds c = (omega arith, λ k low high. absurd (omega arith))
 
 shared-slice-read-if1 : tie.Need-shared-slice-read-if1 Inv-loop μ-loop
 shared-slice-read-if1 c = omega arith
 
 returns : tie.Need-returns Inv-loop μ-loop
-returns c = tt
+returns c = never
 
 add-i : tie.Need-add-i Inv-loop μ-loop
 add-i c = omega arith
@@ -27,10 +30,15 @@ loop-less : tie.Need-loop-less Inv-loop μ-loop
 loop-less c = omega arith
 
 loop-again : tie.Need-loop-again Inv-loop μ-loop
-loop-again c = tt
+loop-again c =
+    let given = c .before .before .before .before .args in
+    let turn = c .before .before .before .loop in
+    (omega arith, zeros-more (given .held .now) (given .at) (turn .i) (turn .inv .1) (c .if1 .left))
 
 returns-2 : tie.Need-returns-2 Inv-loop μ-loop
-returns-2 c = tt
+returns-2 c =
+    let given = c .before .before .args in
+    λ e. zeros-all (given .held .now) (given .at) (c .before .loop .i) (c .before .loop .inv .1) (omega arith)
 
 pub only-zeros-spec : {M : Type 1} → statement M
 only-zeros-spec =

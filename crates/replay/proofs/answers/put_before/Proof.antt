@@ -34,10 +34,9 @@ loop-less : tie.Need-loop-less Inv-loop μ-loop
 loop-less c = omega arith
 
 loop-again : tie.Need-loop-again Inv-loop μ-loop
-loop-again c = 
+loop-again c =
     let turn = c .before .before .loop in
-    let start = c .before .before .before .before .args in
-    (
+    let start = c .before .before .before .before .args in (
       omega arith,
       ap (λ (l : List ℕ). set l (turn .i) (turn .v)) (turn .inv .1) ∙ filled-more (λ k. (7 * k + 3) % 256) (start .buf .now) (turn .i) (turn .v) (omega arith) (turn .inv .3),
       simp length-set (omega arith),

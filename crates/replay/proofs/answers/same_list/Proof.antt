@@ -1,6 +1,9 @@
--- `answers::same_list` is safe: the entries that are listed are among the 60 that were taken. Assumes nothing.
+-- `answers::same_list` meets its contract: what `same_items` says of the entries and the text of the record. Assumes nothing.
 use mathlib.Core.Path.{sym}
 use lib.Seq.{length-take-le}
+use Rattle.lists.specs.Lists.{part}
+use Rattle.replay.proofs.Held.{never}
+use Rattle.replay.proofs.Agreed.{list-agrees}
 use borrow.Author.Needs.{needs}
 use Rattle.replay.proofs.answers.same_list.Statement.{statement}
 use Rattle.replay.proofs.answers.same_list.Tie as tie
@@ -9,7 +12,7 @@ length-in-requires : tie.Need-length-in-requires
 length-in-requires c κs = search needs
 
 returns : tie.Need-returns
-returns c = search needs
+returns c = never
 
 sub-take-numbers : tie.Need-sub-take-numbers
 sub-take-numbers c = search needs
@@ -48,7 +51,11 @@ same-items-requires : tie.Need-same-items-requires
 same-items-requires c κs = search needs
 
 returns-2 : tie.Need-returns-2
-returns-2 c = search needs
+unfolding part
+returns-2 c =
+    let given = c .before .before .before .before .before in
+    let length = given .before .before .before .before in
+    λ e. list-agrees (length .before .before .args .case .now) (length .length-in .ensures) (given .take-numbers .ensures) (c .before .number-in .ensures) (c .same-items .ensures e)
 
 pub same-list-spec : {M : Type 1} → statement M
 same-list-spec =

@@ -85,7 +85,7 @@ same-header-requires c κs = search needs
 
 returns-4 : tie.Need-returns-4
 unfolding part
-returns-4 c = 
+returns-4 c =
     let case = at-start c .args .case .now in
     let version = version-at _ (at-number c .before .read32 .ensures) (at-number c .from-number .ensures) (at-version c .numbered .given .1) in
     let asked = at-read c in

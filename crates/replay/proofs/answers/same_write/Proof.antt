@@ -1,5 +1,5 @@
 -- `answers::same_write` meets its contract: what `written_as` says of the record's buffer is the agreement. Assumes nothing.
-use mathlib.Core.Path.{_∙_, sym}
+use mathlib.Core.Path.{sym}
 use lib.Seq.{length-take-le}
 use Rattle.lists.specs.Lists.{part}
 use Rattle.replay.proofs.Held.{never}
@@ -83,7 +83,7 @@ written-as-requires c κs = search needs
 
 returns-3 : tie.Need-returns-3
 unfolding part
-returns-3 c = 
+returns-3 c =
     let case = at-start c .args .case .now in
     let version = version-at _ (at-number c .before .read32 .ensures) (at-number c .from-number .ensures) (at-version c .numbered .given .1) in
     let length = at-start-length c in

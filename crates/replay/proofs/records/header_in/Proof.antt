@@ -43,7 +43,7 @@ read32-requires-7 c κs = search needs
 
 returns : tie.Need-returns
 unfolding headerIn part
-returns c = 
+returns c =
     λ i. record {
       version = c .before .before .before .before .before .before .before .before .before .before .before .before .args .version;
       dirs = c .before .before .before .before .before .before .read32 .ensures i;

@@ -48,7 +48,7 @@ returns-7 : tie.Need-returns-7
 returns-7 c = never
 
 returns-8 : tie.Need-returns-8
-returns-8 c = 
+returns-8 c =
     let tested = at-first c in
     λ e. record {
       version = major-one _ _ (sym (tested .before .before .number .ensures) ∙ tested .if1 .left ∙ tested .before .number2 .ensures);

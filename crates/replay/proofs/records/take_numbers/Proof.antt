@@ -3,7 +3,6 @@ use Prim.Native.Nat.{ℕ, _-_, _≤_, _*_}
 use mathlib.Core.Path.{_≡_, refl, _∙_, ap}
 use mathlib.Core.List.{List, _++_}
 use native.Mathlib.Omega.{arith}
-use borrow.Author.Needs.{needs}
 use lib.ListN.{length, drop, set, length-set}
 use Rattle.lists.specs.Lists.{tab}
 use Rattle.lists.proofs.Tab.{filled-none, filled-more}
@@ -41,13 +40,12 @@ loop-less : tie.Need-loop-less Inv-loop μ-loop
 loop-less c = omega arith
 
 loop-again : tie.Need-loop-again Inv-loop μ-loop
-loop-again c = 
+loop-again c =
     let turn = c .before .before .loop in
-    let start = c .before .before .before .before .before .args in
-    (
+    let start = c .before .before .before .before .before .args in (
       omega arith,
       ap (λ (l : List ℕ). set l (turn .i) (c .read32 .result)) (turn .inv .1)
-      ∙ filled-more (λ k. le 4 (start .held .now) (4 * k)) (start .numbers .now) (turn .i) (c .read32 .result) (omega arith) (c .read32 .ensures),
+          ∙ filled-more (λ k. le 4 (start .held .now) (4 * k)) (start .numbers .now) (turn .i) (c .read32 .result) (omega arith) (c .read32 .ensures),
       simp length-set (omega arith),
     )
 
