@@ -37,16 +37,17 @@ accepted m b e = let none = given-none (readRows m b) refl e in (none 3 (omega a
 sized : (b : List ℕ) → Below 256 b → Sized (headerOf b)
 unfolding headerOf numberAt listOf entryAt dirsOf endIfFree
 sized b h =
-    record
-    { dirs = least (eqb (le 2 b 26) 3) 0 (le 4 b 40) (omega arith) (le-below 4 b 40 h)
-    ; fats = le-below 4 b 44 h
-    ; dir = le-below 4 b 48 h
-    ; minifat = le-below 4 b 60 h
-    ; minifats = le-below 4 b 64 h
-    ; difat = least (eqb (le 4 b 68) freeSector) endOfChain (le 4 b 68) (omega arith) (le-below 4 b 68 h)
-    ; difats = le-below 4 b 72 h
-    ; entries = length-tab (entryAt b) 109
-    ; list = record { each = λ i l. let k : i < 109 = rw length-tab at l in rw (getD-tab (entryAt b) 109 i 0 k) (le-below 4 b (76 + 4 * i) h) } }
+    record {
+      dirs = least (eqb (le 2 b 26) 3) 0 (le 4 b 40) (omega arith) (le-below 4 b 40 h);
+      fats = le-below 4 b 44 h;
+      dir = le-below 4 b 48 h;
+      minifat = le-below 4 b 60 h;
+      minifats = le-below 4 b 64 h;
+      difat = least (eqb (le 4 b 68) freeSector) endOfChain (le 4 b 68) (omega arith) (le-below 4 b 68 h);
+      difats = le-below 4 b 72 h;
+      entries = length-tab (entryAt b) 109;
+      list = record { each = λ i l. let k : i < 109 = rw length-tab at l in rw (getD-tab (entryAt b) 109 i 0 k) (le-below 4 b (76 + 4 * i) h) };
+    }
   where
     least : (t : Bool) (x y : ℕ) → x < 2 ^ 32 → y < 2 ^ 32 → choose t x y < 2 ^ 32
     least true x y hx hy = hx
@@ -148,12 +149,13 @@ unfolding around
 given xs n low t =
     let whole : 512 ≤ length blank = omega (arith, length-blank) in
     let r = written-reads (around xs) (around-sized xs n low) blank whole Strict (around-written xs (length blank) whole t) in
-    record
-    { mode = Strict
-    ; bytes = splice blank 0 (headerBytes (around xs))
-    ; small = below-splice 256 blank 0 (headerBytes (around xs)) (omega (arith, length-blank, length-header (around xs) n)) (unfold blank in below-replicate 256 512 0 (omega arith)) (header-below (around xs))
-    ; read = r .0
-    ; gives = ap (λ (h : Header). h .list) (r .1) }
+    record {
+      mode = Strict;
+      bytes = splice blank 0 (headerBytes (around xs));
+      small = below-splice 256 blank 0 (headerBytes (around xs)) (omega (arith, length-blank, length-header (around xs) n)) (unfold blank in below-replicate 256 512 0 (omega arith)) (header-below (around xs));
+      read = r .0;
+      gives = ap (λ (h : Header). h .list) (r .1);
+    }
 
 -- a reader can give exactly the lists of ids and then FREE
 pub givable-exactly : (xs : List ℕ) → length xs ≡ 109 → Below (2 ^ 32) xs → Givable xs ↔ (idsThenFree xs ≡ true)
@@ -172,13 +174,14 @@ nine-exactly h n s = (λ e. told (given-first (writeRows h n) 2 refl (omega arit
   where
     told : First (writeRows h n) 2 → Nine h n
     told f =
-        record
-        { whole = ltb-false _ _ (f .none 0 (omega arith))
-        ; dirs = f .none 1 (omega arith)
-        ; entries = ⊎-elim
-        (λ (t : not (idsThenFree (h .list)) ≡ true). inl (λ g. not-both (givable-exactly (h .list) (s .entries) (s .list) .0 g) (not-true _ t)))
-        (λ (t : eqb (h .difat) freeSector ≡ true). inr (eqb-true _ _ t))
-        (either-cases _ _ (f .here)) }
+        record {
+          whole = ltb-false _ _ (f .none 0 (omega arith));
+          dirs = f .none 1 (omega arith);
+          entries = ⊎-elim
+              (λ (t : not (idsThenFree (h .list)) ≡ true). inl (λ g. not-both (givable-exactly (h .list) (s .entries) (s .list) .0 g) (not-true _ t)))
+              (λ (t : eqb (h .difat) freeSector ≡ true). inr (eqb-true _ _ t))
+              (either-cases _ _ (f .here));
+        }
 
     bad : (Givable (h .list) → ⊥) ⊎ (h .difat ≡ freeSector) → unreadable (h .list) (h .difat) ≡ true
     bad (inl g) =

@@ -156,13 +156,14 @@ module _ (h : Header) (s : Sized h) where
     fixed-back : fixedOf w ≡ fixedWritten (h .version) (h .dirs)
     unfolding headerBytes digits le fixedOf fixedWritten
     fixed-back = λ j.
-        record
-        { order = back orderAt byteOrder (omega arith) refl (omega arith) j
-        ; major = major-back j
-        ; shift = back shiftAt (shiftOf (h .version)) (omega arith) refl (small (h .version)) j
-        ; mini = back miniAt miniShift (omega arith) refl (omega arith) j
-        ; dirs = back dirsAt (h .dirs) (omega arith) refl (s .dirs) j
-        ; cutoff = back cutoffAt miniCutoff (omega arith) refl (omega arith) j }
+        record {
+          order = back orderAt byteOrder (omega arith) refl (omega arith) j;
+          major = major-back j;
+          shift = back shiftAt (shiftOf (h .version)) (omega arith) refl (small (h .version)) j;
+          mini = back miniAt miniShift (omega arith) refl (omega arith) j;
+          dirs = back dirsAt (h .dirs) (omega arith) refl (s .dirs) j;
+          cutoff = back cutoffAt miniCutoff (omega arith) refl (omega arith) j;
+        }
       where
         small : (v : Version) → shiftOf v < 256 ^ 2
         small V3 = omega arith
@@ -172,26 +173,28 @@ module _ (h : Header) (s : Sized h) where
     content-back : countsDirs Strict (majorOf (h .version)) (h .dirs) ≡ false → (h .difat ≡ freeSector → ⊥) → headerOf w ≡ h
     unfolding headerBytes digits le headerOf
     content-back c f = λ j.
-        record
-        { version = (ap versionOf major-back ∙ version-back (h .version)) j
-        ; dirs = (ap₂ dirsOf major-back (back dirsAt (h .dirs) (omega arith) refl (s .dirs)) ∙ dirs-kept (h .version) (h .dirs) c) j
-        ; fats = back fatsAt (h .fats) (omega arith) refl (s .fats) j
-        ; dir = back dirAt (h .dir) (omega arith) refl (s .dir) j
-        ; minifat = back minifatAt (h .minifat) (omega arith) refl (s .minifat) j
-        ; minifats = back minifatsAt (h .minifats) (omega arith) refl (s .minifats) j
-        ; difat = (ap endIfFree (back difatAt (h .difat) (omega arith) refl (s .difat)) ∙ end-kept (h .difat) f) j
-        ; difats = back difatsAt (h .difats) (omega arith) refl (s .difats) j
-        ; list = list-back j }
+        record {
+          version = (ap versionOf major-back ∙ version-back (h .version)) j;
+          dirs = (ap₂ dirsOf major-back (back dirsAt (h .dirs) (omega arith) refl (s .dirs)) ∙ dirs-kept (h .version) (h .dirs) c) j;
+          fats = back fatsAt (h .fats) (omega arith) refl (s .fats) j;
+          dir = back dirAt (h .dir) (omega arith) refl (s .dir) j;
+          minifat = back minifatAt (h .minifat) (omega arith) refl (s .minifat) j;
+          minifats = back minifatsAt (h .minifats) (omega arith) refl (s .minifats) j;
+          difat = (ap endIfFree (back difatAt (h .difat) (omega arith) refl (s .difat)) ∙ end-kept (h .difat) f) j;
+          difats = back difatsAt (h .difats) (omega arith) refl (s .difats) j;
+          list = list-back j;
+        }
 
     -- a reader of either mode has no cause against it, and gives the header
     pub written-reads : (m : Validation) → writeNo h (length b) ≡ 0
         → (readNo m (splice b 0 (headerBytes h)) ≡ 0) × (headerOf (splice b 0 (headerBytes h)) ≡ h)
     unfolding w
-    written-reads m e =
-        (sym (gives-0 m w (rw (length-splice b 0 (headerBytes h) fits) whole) (rw signature-back (sameList-refl signature))
-        (sym (ap (λ (f : Fixed). refusal (fixedRows m f)) fixed-back ∙ fixed-passes m (h .version) (h .dirs) (kept .0)))
-        (rw list-back (good .0))),
-        content-back (kept .0) (good .1))
+    written-reads m e = (
+      sym (gives-0 m w (rw (length-splice b 0 (headerBytes h) fits) whole) (rw signature-back (sameList-refl signature))
+          (sym (ap (λ (f : Fixed). refusal (fixedRows m f)) fixed-back ∙ fixed-passes m (h .version) (h .dirs) (kept .0)))
+          (rw list-back (good .0))),
+      content-back (kept .0) (good .1),
+    )
       where
         kept : (countsDirs Strict (majorOf (h .version)) (h .dirs) ≡ false) × (unreadable (h .list) (h .difat) ≡ false)
         kept = accepted h (length b) e

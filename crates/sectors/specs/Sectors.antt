@@ -1,5 +1,5 @@
 -- Sectors of an image and the entries in them (MS-CFB 2.1, 2.3, 2.5), over the sector's length S. Assumes nothing.
-use Prim.Native.Nat.{ℕ, _+_, _-_, _*_, _/_, _%_}
+use Prim.Native.Nat.{ℕ, _+_, _*_, _/_, _%_}
 use mathlib.Core.Bool.{Bool}
 use mathlib.Core.List.{List}
 use lib.Dec.{eqb}
@@ -29,3 +29,13 @@ entryIn sector j = le 4 sector (4 * j)
 unfoldable pub entryOf : ℕ → List ℕ → List ℕ → ℕ → ℕ
 unfolding sectorOf perSector entryIn
 entryOf S img ids i = entryIn (sectorOf S img (getD ids (i / perSector S) 0)) (i % perSector S)
+
+-- entry j of a sector is FREE
+unfoldable pub freeAt : List ℕ → ℕ → Bool
+unfolding entryIn
+freeAt sector j = eqb (entryIn sector j) freeSector
+
+-- c entries of a sector from j on are FREE
+unfoldable pub freeFrom : List ℕ → ℕ → ℕ → Bool
+unfolding freeAt
+freeFrom sector j c = every c (λ i. freeAt sector (j + i))
