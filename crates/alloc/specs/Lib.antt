@@ -1,3 +1,4 @@
 pub mod Judge
 pub mod Lists
+pub mod Loaded
 pub mod Opening

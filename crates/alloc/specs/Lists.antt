@@ -29,23 +29,23 @@ roomOf S lent = min most (sectorsIn S lent)
 
 -- document 01: k, the FAT sectors that n sectors need
 unfoldable pub fatCount : ℕ → ℕ → ℕ
-unfolding ceil perSector
+unfolding ceil
 fatCount S n = ceil n (perSector S)
 
 -- document 01: d, the DIFAT sectors that k FAT sectors need
 unfoldable pub difatCount : ℕ → ℕ → ℕ
-unfolding ceil perSector
+unfolding ceil
 difatCount S k = ceil (k - 109) (perSector S - 1)
 
 -- MS-CFB 2.5: the j-th sector of the DIFAT chain, and what follows the last one: a sector's last entry is the next
 unfoldable pub difatAt : ℕ → List ℕ → ℕ → ℕ → ℕ
-unfolding sectorOf perSector entryIn
+unfolding sectorOf entryIn
 difatAt S img first zero = first
 difatAt S img first (suc j) = entryIn (sectorOf S img (difatAt S img first j)) (perSector S - 1)
 
 -- MS-CFB 2.5: place p of the DIFAT: in the header below 109, then S / 4 - 1 places to a DIFAT sector
 unfoldable pub placeAt : ℕ → List ℕ → List ℕ → List ℕ → ℕ → ℕ
-unfolding sectorOf perSector entryIn
+unfolding sectorOf entryIn
 placeAt S img list difats p =
     choose (ltb p 109) (getD list p 0)
     (entryIn (sectorOf S img (getD difats ((p - 109) / (perSector S - 1)) 0)) ((p - 109) % (perSector S - 1)))
@@ -107,5 +107,5 @@ listsRight S img h n =
 
 -- document 01, 13: the entries from n on are FREE
 unfoldable pub tailFree : ℕ → List ℕ → List ℕ → ℕ → Bool
-unfolding entryOf perSector
+unfolding entryOf
 tailFree S img fats n = every (length fats * perSector S - n) (λ j. eqb (entryOf S img fats (n + j)) freeSector)

@@ -1,1 +1,2 @@
-// stub
+// The allocation tables of a compound file: the opening (document 01, refusals 10 to 18).
+mod load;

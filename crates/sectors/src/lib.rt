@@ -13,6 +13,17 @@ pub fn entry(sector: &[u8], j: usize) -> u32
     words::read32(sector, 4 * j)
 }
 
+// Entry j of sector id of an image: the sector is lent as the part of the image that it is.
+pub fn entry_at(image: &[u8], s: usize, id: usize, j: usize) -> u32
+    requires { ⌜ startOf s id + s ≤ length (now image) ⌝ }
+    requires { ⌜ 4 * j + 4 ≤ s ⌝ }
+    ensures { λ r. ⌜ r ≡ entryIn (sectorOf s (now (image .entry)) id) j ⌝ }
+{
+    let a = (id + 1) * s;
+    let b = a + s;
+    entry(&image[a..b], j)
+}
+
 // The first entries of a sector, as many as out has room for.
 pub fn load(sector: &[u8], out: &mut [u32])
     requires { ⌜ 4 * length (now out) ≤ length (now sector) ⌝ }

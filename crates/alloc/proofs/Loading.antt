@@ -1,0 +1,114 @@
+-- The laws of the lists and of the FAT that an image's bytes hold. Assumes nothing.
+use Prim.Native.Nat.{ℕ, zero, suc, _+_, _-_, _*_, _/_, _%_, _≤_, _<_}
+use mathlib.Core.Path.{_≡_, refl, sym, _∙_, ap}
+use mathlib.Core.Bool.{Bool, true, false}
+use mathlib.Core.List.{List, [], _∷_, _++_}
+use mathlib.Core.Logic.{_⊎_, inl, inr, ⊎-elim}
+use native.Mathlib.Omega.{arith}
+use native.Mathlib.Nat.{div-lt-iff-lt-mul, mod-lt}
+use native.Mathlib.Numerals.{add-one}
+use borrow.Author.Tests.{lt-ltb, le-ltb, ltb-true}
+use lib.Dec.{eqb, ltb}
+use lib.ListN.{length, getD, set, drop}
+use Rattle.lists.specs.Lists.{choose, both, either, every, tab}
+use Rattle.lists.proofs.Cases.{below-or, both-false-left, every-at, every-yes}
+use Rattle.lists.proofs.Tab.{length-tab, getD-tab, filled-none, filled-more, filled-all}
+use Rattle.sectors.specs.Sectors.{sectorOf, perSector, entryIn, entryOf, Holds}
+use Rattle.alloc.specs.Lists.{difatAt, difatsOf, placeAt, fatsOf, allBelow, ends}
+use Rattle.alloc.specs.Loaded.{ChainListed, PlacesListed}
+
+-- two tests that agree below n, and one that fails somewhere below n
+pub every-ext : (n : ℕ) (f g : ℕ → Bool) → ((i : ℕ) → i < n → f i ≡ g i) → every n f ≡ every n g
+unfolding every
+every-ext zero f g h = refl
+every-ext (suc n) f g h =
+    let rest : every n f ≡ every n g = every-ext n f g (λ i l. h i (omega arith)) in
+    rw (h n (omega arith), rest)
+
+pub every-false : (n : ℕ) (f : ℕ → Bool) (i : ℕ) → i < n → f i ≡ false → every n f ≡ false
+unfolding every
+every-false zero f i l h = absurd (omega arith)
+every-false (suc n) f i l h =
+    let rest : i < n → every n f ≡ false = λ k. every-false n f i k h in
+    ⊎-elim
+    (λ (k : i < n). Rattle.lists.proofs.Cases.both-false-right (f n) (every n f) (rest k))
+    (λ (k : n ≤ i). let e : i ≡ n = omega arith in both-false-left (f n) (every n f) (rw e at h))
+    (below-or i n)
+
+-- a list that is a table of values is below n where the values are
+pub below-tab : (n : ℕ) (f : ℕ → ℕ) (d : ℕ) → allBelow n (tab f d) ≡ every d (λ i. ltb (f i) n)
+unfolding allBelow
+below-tab n f d =
+    ap (λ (k : ℕ). every k (λ i. ltb (getD (tab f d) i 0) n)) (length-tab f d)
+    ∙ every-ext d (λ i. ltb (getD (tab f d) i 0) n) (λ i. ltb (f i) n) (λ i l. rw (getD-tab f d i 0 l))
+
+-- a list that is filled from the front with values below n, j of them so far
+pub record Filling (f : ℕ → ℕ) (n j : ℕ) (before now : List ℕ) : Type 0 where
+  pub below : every j (λ i. ltb (f i) n) ≡ true
+  pub list : now ≡ tab f j ++ drop j before
+
+pub filling-none : (f : ℕ → ℕ) (n : ℕ) (before : List ℕ) → Filling f n 0 before before
+unfolding every
+filling-none f n before = record { below = refl; list = filled-none f before }
+
+pub filling-more : (f : ℕ → ℕ) (n j : ℕ) (before now : List ℕ) (v : ℕ) → Filling f n j before now → j < length before → v ≡ f j → v < n → Filling f n (j + 1) before (set now j v)
+filling-more f n j before now v s h e low =
+    record
+    { below = sym (every-yes (λ i. ltb (f i) n) j true true (lt-ltb (f j) n (rw e at low)) (sym (s .below)) refl)
+    ; list = ap (λ (l : List ℕ). set l j v) (s .list) ∙ filled-more f before j v h e }
+
+-- it ends with every value below n, or at a value that is not
+pub filling-all : (f : ℕ → ℕ) (n j : ℕ) (before now : List ℕ) → Filling f n j before now → length before ≡ j → (allBelow n (tab f (length before)) ≡ true) × (now ≡ tab f (length before))
+filling-all f n j before now s e =
+    (below-tab n f (length before) ∙ ap (λ (k : ℕ). every k (λ i. ltb (f i) n)) e ∙ s .below, filled-all f before now j e (s .list))
+
+pub filling-stops : (f : ℕ → ℕ) (n j d : ℕ) → j < d → n ≤ f j → allBelow n (tab f d) ≡ false
+filling-stops f n j d h high = below-tab n f d ∙ every-false d (λ i. ltb (f i) n) j h (le-ltb (f j) n high)
+
+-- the DIFAT chain is listed, or stops
+pub chain-stops : (S : ℕ) (img : List ℕ) (n first d j : ℕ) (difats : List ℕ) → j < d → n ≤ difatAt S img first j → ChainListed S img n first d false difats
+unfolding difatsOf
+chain-stops S img n first d j difats h high =
+    record
+    { right = sym (both-false-left _ (ends (difatAt S img first d)) (filling-stops (difatAt S img first) n j d h high))
+    ; listed = λ e. absurd (Rattle.lists.proofs.Cases.not-both e refl) }
+
+pub chain-ends : (S : ℕ) (img : List ℕ) (n first j id : ℕ) (before now : List ℕ) (r : Bool) → Filling (difatAt S img first) n j before now → length before ≡ j → id ≡ difatAt S img first j
+    → r ≡ ends id → ChainListed S img n first (length before) r now
+unfolding difatsOf
+chain-ends S img n first j id before now r s e here h =
+    let all = filling-all (difatAt S img first) n j before now s e in
+    record
+    { right = h ∙ ap ends here ∙ ap (λ (k : ℕ). ends (difatAt S img first k)) (sym e) ∙ sym (rw (all .0))
+    ; listed = λ t. all .1 }
+
+-- the chain's first sector, and the next
+pub chain-first : (S : ℕ) (img : List ℕ) (first : ℕ) → first ≡ difatAt S img first 0
+unfolding difatAt
+chain-first S img first = refl
+
+pub chain-next : (S : ℕ) (img : List ℕ) (first j id v : ℕ) → id ≡ difatAt S img first j → v ≡ entryIn (sectorOf S img id) (perSector S - 1) → v ≡ difatAt S img first (j + 1)
+unfolding difatAt
+chain-next S img first j id v e h = h ∙ rw (add-one j, e)
+
+-- a place in the header, and one in a DIFAT sector
+pub place-low : (S : ℕ) (img list difats : List ℕ) (p : ℕ) → p < 109 → getD list p 0 ≡ placeAt S img list difats p
+unfolding placeAt
+place-low S img list difats p h = sym (rw (lt-ltb p 109 h))
+
+pub place-high : (S : ℕ) (img list difats : List ℕ) (p v : ℕ) → 109 ≤ p → v ≡ entryIn (sectorOf S img (getD difats ((p - 109) / (perSector S - 1)) 0)) ((p - 109) % (perSector S - 1))
+    → v ≡ placeAt S img list difats p
+unfolding placeAt
+place-high S img list difats p v h e = e ∙ sym (rw (le-ltb p 109 h))
+
+-- an id of a list that is below n
+pub below-at : (n : ℕ) (xs : List ℕ) → allBelow n xs ≡ true → (i : ℕ) → i < length xs → getD xs i 0 < n
+unfolding allBelow
+below-at n xs t i l = ltb-true _ _ (every-at (length xs) (λ j. ltb (getD xs j 0) n) t i l)
+
+-- the DIFAT sector that holds a place, and the slot in it
+pub place-index : (p d e : ℕ) → 1 ≤ e → p < 109 + d * e → 109 ≤ p → (p - 109) / e < d
+place-index p d e pos h l = div-lt-iff-lt-mul {k = e} {x = p - 109} {y = d} pos .1 (omega arith)
+
+pub place-slot : (S p : ℕ) → S ≡ 4 * perSector S → 2 ≤ perSector S → 4 * ((p - 109) % (perSector S - 1)) + 4 ≤ S
+place-slot S p e two = omega (arith, mod-lt (p - 109) {m = perSector S - 1} (omega arith))

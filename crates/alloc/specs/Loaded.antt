@@ -1,0 +1,17 @@
+-- What the functions that load the lists leave. Assumes nothing.
+use Prim.Native.Nat.{ℕ}
+use mathlib.Core.Path.{_≡_}
+use mathlib.Core.Bool.{Bool, true}
+use mathlib.Core.List.{List}
+use Rattle.lists.specs.Lists.{both}
+use Rattle.alloc.specs.Lists.{difatAt, difatsOf, fatsOf, allBelow, ends}
+
+-- the DIFAT chain of d sectors is listed: whether it is right but for repeats, and the list where it is
+pub record ChainListed (S : ℕ) (img : List ℕ) (n first d : ℕ) (r : Bool) (difats : List ℕ) : Type 0 where
+  pub right : r ≡ both (allBelow n (difatsOf S img first d)) (ends (difatAt S img first d))
+  pub listed : r ≡ true → difats ≡ difatsOf S img first d
+
+-- the k places of the DIFAT are listed: whether each is below n, and the list where they are
+pub record PlacesListed (S : ℕ) (img : List ℕ) (n : ℕ) (list difats : List ℕ) (k : ℕ) (r : Bool) (fats : List ℕ) : Type 0 where
+  pub right : r ≡ allBelow n (fatsOf S img list difats k)
+  pub listed : r ≡ true → fats ≡ fatsOf S img list difats k

@@ -1,0 +1,63 @@
+// The lists and the FAT out of an image's bytes (MS-CFB 2.3 and 2.5; document 01, refusals 12 and 13).
+ghost use mathlib.Core.Path.{_≡_};
+ghost use mathlib.Core.Bool.{true};
+ghost use Prim.Native.Nat.{_+_, _-_, _*_, _≤_, _<_};
+ghost use lib.ListN.{length};
+ghost use Rattle.sectors.specs.Sectors.{Holds, perSector};
+ghost use Rattle.alloc.specs.Lists.{allBelow, ends as endsOf, placeAt, restFree, fatOf, tailFree};
+ghost use Rattle.alloc.specs.Loaded.{ChainListed, PlacesListed};
+
+// Whether a pointer is END or FREE.
+pub(crate) fn ends(v: u32) -> bool
+    ensures { λ r. ⌜ r ≡ endsOf v ⌝ }
+{
+    if v == consts::END_OF_CHAIN {
+        return true;
+    }
+    v == consts::FREE_SECTOR
+}
+
+// Lists the DIFAT chain from its first sector, as many sectors as the list has room for. Whether
+// each is below n and END or FREE follows.
+pub(crate) fn list_difats(image: &[u8], s: usize, n: usize, first: u32, difats: &mut [u32]) -> bool
+    requires { ⌜ Holds s n (length (now image)) ⌝ }
+    ensures { λ r. ⌜ ChainListed s (now (image .entry)) n first (length (now (difats .entry))) r (now (difats .exit)) ⌝ }
+{
+    let last = s / 4 - 1;
+    let mut id = first;
+    let mut j = 0;
+    while j < difats.len() {
+        let at = id as usize;
+        if n <= at {
+            return false;
+        }
+        difats[j] = id;
+        id = sectors::entry_at(image, s, at, last);
+        j += 1;
+    }
+    ends(id)
+}
+
+// Place p of the DIFAT: in the header's list, or in a DIFAT sector.
+pub(crate) fn place_at(
+    image: &[u8],
+    s: usize,
+    n: usize,
+    list: &[u32],
+    difats: &[u32],
+    p: usize,
+) -> u32
+    requires { ⌜ length (now list) ≡ 109 ⌝ }
+    requires { ⌜ Holds s n (length (now image)) ⌝ }
+    requires { ⌜ allBelow n (now difats) ≡ true ⌝ }
+    requires { ⌜ p < 109 + length (now difats) * (perSector s - 1) ⌝ }
+    ensures { λ r. ⌜ r ≡ placeAt s (now (image .entry)) (now (list .entry)) (now (difats .entry)) p ⌝ }
+{
+    if p < 109 {
+        return list[p];
+    }
+    let each = s / 4 - 1;
+    let q = (p - 109) / each;
+    let id = difats[q] as usize;
+    sectors::entry_at(image, s, id, (p - 109) % each)
+}
