@@ -11,11 +11,11 @@ use borrow.Author.Tests.{lt-ltb, le-ltb, ltb-true}
 use lib.Dec.{eqb, ltb}
 use lib.ListN.{length, getD, set, drop}
 use Rattle.lists.specs.Lists.{choose, both, either, every, tab}
-use Rattle.lists.proofs.Cases.{below-or, both-false-left, every-at, every-yes}
+use Rattle.lists.proofs.Cases.{below-or, both-false-left, both-false-right, not-both, every-at, every-yes}
 use Rattle.lists.proofs.Tab.{length-tab, getD-tab, filled-none, filled-more, filled-all}
 use Rattle.sectors.specs.Sectors.{sectorOf, perSector, entryIn, entryOf, Holds}
 use Rattle.alloc.specs.Lists.{difatAt, difatsOf, placeAt, fatsOf, allBelow, ends}
-use Rattle.alloc.specs.Loaded.{ChainListed, PlacesListed}
+use Rattle.alloc.specs.Loaded.{ChainListed, Places, PlacesListed}
 
 -- two tests that agree below n, and one that fails somewhere below n
 pub every-ext : (n : ℕ) (f g : ℕ → Bool) → ((i : ℕ) → i < n → f i ≡ g i) → every n f ≡ every n g
@@ -31,7 +31,7 @@ every-false zero f i l h = absurd (omega arith)
 every-false (suc n) f i l h =
     let rest : i < n → every n f ≡ false = λ k. every-false n f i k h in
     ⊎-elim
-    (λ (k : i < n). Rattle.lists.proofs.Cases.both-false-right (f n) (every n f) (rest k))
+    (λ (k : i < n). both-false-right (f n) (every n f) (rest k))
     (λ (k : n ≤ i). let e : i ≡ n = omega arith in both-false-left (f n) (every n f) (rw e at h))
     (below-or i n)
 
@@ -71,7 +71,7 @@ unfolding difatsOf
 chain-stops S img n first d j difats h high =
     record
     { right = sym (both-false-left _ (ends (difatAt S img first d)) (filling-stops (difatAt S img first) n j d h high))
-    ; listed = λ e. absurd (Rattle.lists.proofs.Cases.not-both e refl) }
+    ; listed = λ e. absurd (not-both e refl) }
 
 pub chain-ends : (S : ℕ) (img : List ℕ) (n first j id : ℕ) (before now : List ℕ) (r : Bool) → Filling (difatAt S img first) n j before now → length before ≡ j → id ≡ difatAt S img first j
     → r ≡ ends id → ChainListed S img n first (length before) r now
@@ -112,3 +112,20 @@ place-index p d e pos h l = div-lt-iff-lt-mul {k = e} {x = p - 109} {y = d} pos 
 
 pub place-slot : (S p : ℕ) → S ≡ 4 * perSector S → 2 ≤ perSector S → 4 * ((p - 109) % (perSector S - 1)) + 4 ≤ S
 place-slot S p e two = omega (arith, mod-lt (p - 109) {m = perSector S - 1} (omega arith))
+
+-- the places are listed, or stop at one that is not below n
+pub places-stop : (S : ℕ) (img : List ℕ) (n : ℕ) (list difats : List ℕ) (k j : ℕ) (fats : List ℕ) → j < k → n ≤ placeAt S img list difats j → PlacesListed S img n list difats k false fats
+unfolding fatsOf
+places-stop S img n list difats k j fats h high =
+    record { right = sym (filling-stops (placeAt S img list difats) n j k h high); listed = λ e. absurd (not-both e refl) }
+
+pub places-end : (S : ℕ) (img : List ℕ) (n : ℕ) (list difats : List ℕ) (j : ℕ) (before now : List ℕ) → Filling (placeAt S img list difats) n j before now → length before ≡ j
+    → PlacesListed S img n list difats (length before) true now
+unfolding fatsOf
+places-end S img n list difats j before now s e =
+    let all = filling-all (placeAt S img list difats) n j before now s e in
+    record { right = sym (all .0); listed = λ t. all .1 }
+
+-- fewer places can be read where more can
+pub fewer-places : (S n len : ℕ) (list difats : List ℕ) (k j : ℕ) → Places S n len list difats k → j ≤ 109 + length difats * (perSector S - 1) → Places S n len list difats j
+fewer-places S n len list difats k j p h = record { holds = p .holds; whole = p .whole; below = p .below; there = h; small = p .small }

@@ -1,9 +1,11 @@
 -- What the functions that load the lists leave. Assumes nothing.
-use Prim.Native.Nat.{ℕ}
+use Prim.Native.Nat.{ℕ, _+_, _-_, _*_, _^_, _≤_, _<_}
 use mathlib.Core.Path.{_≡_}
 use mathlib.Core.Bool.{Bool, true}
 use mathlib.Core.List.{List}
 use Rattle.lists.specs.Lists.{both}
+use lib.ListN.{length}
+use Rattle.sectors.specs.Sectors.{perSector, Holds}
 use Rattle.alloc.specs.Lists.{difatAt, difatsOf, fatsOf, allBelow, ends}
 
 -- the DIFAT chain of d sectors is listed: whether it is right but for repeats, and the list where it is
@@ -15,3 +17,11 @@ pub record ChainListed (S : ℕ) (img : List ℕ) (n first d : ℕ) (r : Bool) (
 pub record PlacesListed (S : ℕ) (img : List ℕ) (n : ℕ) (list difats : List ℕ) (k : ℕ) (r : Bool) (fats : List ℕ) : Type 0 where
   pub right : r ≡ allBelow n (fatsOf S img list difats k)
   pub listed : r ≡ true → fats ≡ fatsOf S img list difats k
+
+-- k places of the DIFAT can be read: the header's list is whole, its DIFAT sectors are below n, and the places are there
+pub record Places (S n len : ℕ) (list difats : List ℕ) (k : ℕ) : Type 0 where
+  pub holds : Holds S n len
+  pub whole : length list ≡ 109
+  pub below : allBelow n difats ≡ true
+  pub there : k ≤ 109 + length difats * (perSector S - 1)
+  pub small : length difats * (perSector S - 1) < 2 ^ 32

@@ -5,7 +5,7 @@ ghost use Prim.Native.Nat.{_+_, _-_, _*_, _≤_, _<_};
 ghost use lib.ListN.{length};
 ghost use Rattle.sectors.specs.Sectors.{Holds, perSector};
 ghost use Rattle.alloc.specs.Lists.{allBelow, ends as endsOf, placeAt, restFree, fatOf, tailFree};
-ghost use Rattle.alloc.specs.Loaded.{ChainListed, PlacesListed};
+ghost use Rattle.alloc.specs.Loaded.{ChainListed, Places, PlacesListed};
 
 // Whether a pointer is END or FREE.
 pub(crate) fn ends(v: u32) -> bool
@@ -47,10 +47,7 @@ pub(crate) fn place_at(
     difats: &[u32],
     p: usize,
 ) -> u32
-    requires { ⌜ length (now list) ≡ 109 ⌝ }
-    requires { ⌜ Holds s n (length (now image)) ⌝ }
-    requires { ⌜ allBelow n (now difats) ≡ true ⌝ }
-    requires { ⌜ p < 109 + length (now difats) * (perSector s - 1) ⌝ }
+    requires { ⌜ Places s n (length (now image)) (now list) (now difats) (p + 1) ⌝ }
     ensures { λ r. ⌜ r ≡ placeAt s (now (image .entry)) (now (list .entry)) (now (difats .entry)) p ⌝ }
 {
     if p < 109 {
@@ -60,4 +57,54 @@ pub(crate) fn place_at(
     let q = (p - 109) / each;
     let id = difats[q] as usize;
     sectors::entry_at(image, s, id, (p - 109) % each)
+}
+
+// How many of k places lie past the header.
+pub(crate) fn past_header(k: usize) -> usize
+    ensures { λ r. ⌜ r ≡ k - 109 ⌝ }
+{
+    if k < 109 { 0 } else { k - 109 }
+}
+
+// Lists the sectors of the FAT, as many places of the DIFAT as the list has room for. Whether each
+// is below n.
+pub(crate) fn list_fats(
+    image: &[u8],
+    s: usize,
+    n: usize,
+    list: &[u32],
+    difats: &[u32],
+    fats: &mut [u32],
+) -> bool
+    requires { ⌜ Places s n (length (now image)) (now list) (now difats) (length (now fats)) ⌝ }
+    ensures { λ r. ⌜ PlacesListed s (now (image .entry)) n (now (list .entry)) (now (difats .entry)) (length (now (fats .entry))) r (now (fats .exit)) ⌝ }
+{
+    let mut p = 0;
+    while p < fats.len() {
+        let id = place_at(image, s, n, list, difats, p);
+        if n <= id as usize {
+            return false;
+        }
+        fats[p] = id;
+        p += 1;
+    }
+    true
+}
+
+// Whether the DIFAT sectors hold FREE past the k places.
+pub(crate) fn rest_free(image: &[u8], s: usize, n: usize, list: &[u32], difats: &[u32], k: usize) -> bool
+    requires { ⌜ Places s n (length (now image)) (now list) (now difats) k ⌝ }
+    ensures { λ r. ⌜ r ≡ restFree s (now (image .entry)) (now (list .entry)) (now (difats .entry)) k (length (now (difats .entry))) ⌝ }
+{
+    let over = past_header(k);
+    let count = difats.len() * (s / 4 - 1) - over;
+    let mut free = true;
+    let mut j = 0;
+    while j < count {
+        if place_at(image, s, n, list, difats, 109 + over + j) != consts::FREE_SECTOR {
+            free = false;
+        }
+        j += 1;
+    }
+    free
 }

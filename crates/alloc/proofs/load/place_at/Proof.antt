@@ -17,10 +17,10 @@ abbrev sectorAt : tie.After-shared-slice-known → ℕ
 sectorAt c = (c .before .args .p - 109) / (perSector (c .before .args .s) - 1)
 
 index : (c : tie.After-shared-slice-known) → 109 ≤ c .before .args .p → sectorAt c < length (c .before .args .difats .now)
-index c h = place-index (c .before .args .p) _ (perSector (c .before .args .s) - 1) (omega (arith, c .before .pre .1 .0 .two)) (c .before .pre .1 .1 .1) h
+index c h = place-index (c .before .args .p) _ (perSector (c .before .args .s) - 1) (omega (arith, c .before .pre .holds .two)) (omega (arith, c .before .pre .there)) h
 
 at-id : (c : tie.After-shared-slice-known) → 109 ≤ c .before .args .p → getD (c .before .args .difats .now) (sectorAt c) 0 < c .before .args .n
-at-id c h = below-at _ _ (c .before .pre .1 .1 .0) _ (index c h)
+at-id c h = below-at _ _ (c .before .pre .below) _ (index c h)
 
 -- src/load.rt:57:16
 mul-result : tie.Need-mul-result
@@ -62,7 +62,7 @@ rem-entry-at c = search needs
 entry-at-requires : tie.Need-entry-at-requires
 entry-at-requires c κs =
     let g = c .before .before .before .before .before in
-    (sector-within _ _ _ _ (g .pre .1 .0) (at-id (c .before .before .before .before) (c .before .if1 .left)), place-slot _ _ (g .pre .1 .0 .entries) (g .pre .1 .0 .two))
+    (sector-within _ _ _ _ (g .pre .holds) (at-id (c .before .before .before .before) (c .before .if1 .left)), place-slot _ _ (g .pre .holds .entries) (g .pre .holds .two))
 
 -- src/load.rt:42:1
 returns-2 : tie.Need-returns-2
