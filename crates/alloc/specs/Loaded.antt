@@ -25,3 +25,11 @@ pub record Places (S n len : ℕ) (list difats : List ℕ) (k : ℕ) : Type 0 wh
   pub below : allBelow n difats ≡ true
   pub there : k ≤ 109 + length difats * (perSector S - 1)
   pub small : length difats * (perSector S - 1) < 2 ^ 32
+
+-- m entries lie in the sectors fats, which are below n, and reach into the last of them
+pub record Covers (S n len : ℕ) (fats : List ℕ) (m : ℕ) : Type 0 where
+  pub holds : Holds S n len
+  pub below : allBelow n fats ≡ true
+  pub enough : m ≤ length fats * perSector S
+  pub last : length fats * perSector S < m + perSector S
+  pub small : m ≤ 2 ^ 32

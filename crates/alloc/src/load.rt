@@ -1,11 +1,11 @@
 // The lists and the FAT out of an image's bytes (MS-CFB 2.3 and 2.5; document 01, refusals 12 and 13).
 ghost use mathlib.Core.Path.{_≡_};
 ghost use mathlib.Core.Bool.{true};
-ghost use Prim.Native.Nat.{_+_, _-_, _*_, _≤_, _<_};
+ghost use Prim.Native.Nat.{_+_, _-_, _*_, _≤_, _<_, min};
 ghost use lib.ListN.{length};
 ghost use Rattle.sectors.specs.Sectors.{Holds, perSector};
 ghost use Rattle.alloc.specs.Lists.{allBelow, ends as endsOf, placeAt, restFree, fatOf, tailFree};
-ghost use Rattle.alloc.specs.Loaded.{ChainListed, Places, PlacesListed};
+ghost use Rattle.alloc.specs.Loaded.{ChainListed, Covers, Places, PlacesListed};
 
 // Whether a pointer is END or FREE.
 pub(crate) fn ends(v: u32) -> bool
@@ -92,7 +92,14 @@ pub(crate) fn list_fats(
 }
 
 // Whether the DIFAT sectors hold FREE past the k places.
-pub(crate) fn rest_free(image: &[u8], s: usize, n: usize, list: &[u32], difats: &[u32], k: usize) -> bool
+pub(crate) fn rest_free(
+    image: &[u8],
+    s: usize,
+    n: usize,
+    list: &[u32],
+    difats: &[u32],
+    k: usize,
+) -> bool
     requires { ⌜ Places s n (length (now image)) (now list) (now difats) k ⌝ }
     ensures { λ r. ⌜ r ≡ restFree s (now (image .entry)) (now (list .entry)) (now (difats .entry)) k (length (now (difats .entry))) ⌝ }
 {
@@ -107,4 +114,42 @@ pub(crate) fn rest_free(image: &[u8], s: usize, n: usize, list: &[u32], difats: 
         j += 1;
     }
     free
+}
+
+// The smaller of two numbers.
+fn lesser(a: usize, b: usize) -> usize
+    ensures { λ r. ⌜ (r ≤ a) × (r ≤ b) × (r ≡ min a b) ⌝ }
+{
+    if a < b { a } else { b }
+}
+
+// Loads the FAT from its sectors, a sector at a time.
+pub(crate) fn load_fat(image: &[u8], s: usize, n: usize, fats: &[u32], fat: &mut [u32])
+    requires { ⌜ Covers s n (length (now image)) (now fats) (length (now fat)) ⌝ }
+    ensures { λ _. ⌜ now (fat .exit) ≡ fatOf s (now (image .entry)) (now (fats .entry)) (length (now (fat .entry))) ⌝ }
+{
+    let each = s / 4;
+    let mut p = 0;
+    while p < fats.len() {
+        let a = p * each;
+        let b = lesser(a + each, fat.len());
+        let id = fats[p] as usize;
+        sectors::load_at(image, s, id, &mut fat[a..b]);
+        p += 1;
+    }
+}
+
+// Whether the FAT's entries from n on are FREE: they lie in its last sector.
+pub(crate) fn tail_free(image: &[u8], s: usize, n: usize, fats: &[u32]) -> bool
+    requires { ⌜ Covers s n (length (now image)) (now fats) n ⌝ }
+    ensures { λ r. ⌜ r ≡ tailFree s (now (image .entry)) (now (fats .entry)) n ⌝ }
+{
+    let k = fats.len();
+    if k == 0 {
+        return true;
+    }
+    let each = s / 4;
+    let done = (k - 1) * each;
+    let id = fats[k - 1] as usize;
+    sectors::free_at(image, s, id, n - done, done + each - n)
 }

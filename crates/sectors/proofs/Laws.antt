@@ -3,7 +3,7 @@ use Prim.Native.Nat.{ℕ, zero, suc, _+_, _-_, _*_, _/_, _%_, _≤_, _<_}
 use mathlib.Core.Path.{_≡_, refl, sym, _∙_, ap}
 use mathlib.Core.List.{List, [], _∷_, _++_}
 use native.Mathlib.Omega.{arith}
-use native.Mathlib.Nat.{mul-one, mul-le-mul-left, mul-le-mul-right, add-mul, one-mul}
+use native.Mathlib.Nat.{mul-one, mul-le-mul-left, mul-le-mul-right, add-mul, one-mul, add-zero, mul-add-div-right, mul-add-mod-self-right, div-eq-of-lt, mod-eq-of-lt}
 use lib.ListN.{length, getD, take, drop}
 use Rattle.lists.specs.Lists.{part}
 use Rattle.sectors.specs.Sectors.{sectorOf, perSector, entryIn, entryOf, Holds}
@@ -26,3 +26,12 @@ sector-within S n len i h l =
 -- the last entry of a sector
 pub last-within : (S n len : ℕ) → Holds S n len → 4 * (perSector S - 1) + 4 ≤ S
 last-within S n len h = omega (arith, h .entries, h .two)
+
+-- an entry of the table, by its sector and its place in it
+pub entry-in-sector : (S : ℕ) (img ids : List ℕ) (p j : ℕ) → j < perSector S → entryOf S img ids (p * perSector S + j) ≡ entryIn (sectorOf S img (getD ids p 0)) j
+unfolding entryOf
+entry-in-sector S img ids p j h =
+    let pos : 1 ≤ perSector S = omega arith in
+    let quot : (p * perSector S + j) / perSector S ≡ p = mul-add-div-right {m = perSector S} pos p j ∙ rw (div-eq-of-lt h, add-zero) in
+    let rest : (p * perSector S + j) % perSector S ≡ j = mul-add-mod-self-right p (perSector S) j ∙ mod-eq-of-lt h in
+    rw (quot, rest)

@@ -36,6 +36,28 @@ pub fn load(sector: &[u8], out: &mut [u32])
     }
 }
 
+// The first entries of sector id of an image, as many as out has room for.
+pub fn load_at(image: &[u8], s: usize, id: usize, out: &mut [u32])
+    requires { ⌜ startOf s id + s ≤ length (now image) ⌝ }
+    requires { ⌜ (1 ≤ s) × (4 * length (now out) ≤ s) ⌝ }
+    ensures { λ _. ⌜ now (out .exit) ≡ tab (entryIn (sectorOf s (now (image .entry)) id)) (length (now (out .entry))) ⌝ }
+{
+    let a = (id + 1) * s;
+    let b = a + s;
+    load(&image[a..b], out);
+}
+
+// Whether count entries of sector id of an image, from one on, are all FREE.
+pub fn free_at(image: &[u8], s: usize, id: usize, from: usize, count: usize) -> bool
+    requires { ⌜ startOf s id + s ≤ length (now image) ⌝ }
+    requires { ⌜ (1 ≤ s) × (4 * (from + count) ≤ s) ⌝ }
+    ensures { λ r. ⌜ r ≡ freeFrom (sectorOf s (now (image .entry)) id) from count ⌝ }
+{
+    let a = (id + 1) * s;
+    let b = a + s;
+    free_from(&image[a..b], from, count)
+}
+
 // Whether the entries of a sector from j on are all FREE. No early way out: so the loop runs on vectors.
 pub fn free_from(sector: &[u8], from: usize, count: usize) -> bool
     requires { ⌜ 4 * (from + count) ≤ length (now sector) ⌝ }

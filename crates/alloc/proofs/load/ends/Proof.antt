@@ -2,15 +2,11 @@ use borrow.Author.Tests.{eq-eqb, ne-eqb}
 use Rattle.alloc.specs.Lists.{ends}
 use Rattle.alloc.proofs.load.ends.Statement.{statement}
 use Rattle.alloc.proofs.load.ends.Tie as tie
-use Rattle.alloc.proofs.load.ends.Reads as reads
-use Rattle.alloc.proofs.load.ends.Lts as lts
 
--- src/load.rt:15:9
 returns : tie.Need-returns
 unfolding ends
 returns c = rw (eq-eqb _ _ (c .if1 .taken))
 
--- src/load.rt:11:1
 returns-2 : tie.Need-returns-2
 unfolding ends
 returns-2 c = rw (ne-eqb _ _ (c .if1 .left))

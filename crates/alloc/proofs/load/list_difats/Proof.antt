@@ -9,10 +9,6 @@ use Rattle.alloc.specs.Lists.{difatAt}
 use Rattle.alloc.proofs.Loading.{Filling, filling-none, filling-more, chain-first, chain-next, chain-stops, chain-ends}
 use Rattle.alloc.proofs.load.list_difats.Statement.{statement}
 use Rattle.alloc.proofs.load.list_difats.Tie as tie
-use Rattle.alloc.proofs.load.list_difats.Reads as reads
-use Rattle.alloc.proofs.load.list_difats.Lts as lts
-use Rattle.alloc.proofs.load.ends.Reads as ends-reads
-use Rattle.sectors.proofs.entry_at.Reads as entry-at-reads
 
 abbrev Inv-loop : tie.InvT-loop
 Inv-loop image s n first difats₀ last id₀ j₀ difats id j = (j ≤ length difats₀) × (last ≡ perSector s - 1) × (id < 2 ^ 32) × (id ≡ difatAt s image first j) × Filling (difatAt s image first) n j difats₀ difats × (length difats ≡ length difats₀)
@@ -20,66 +16,57 @@ Inv-loop image s n first difats₀ last id₀ j₀ difats id j = (j ≤ length d
 abbrev μ-loop : tie.MeasureT-loop
 μ-loop image s n first difats₀ last id₀ j₀ difats id j = length difats₀ - j
 
--- src/load.rt:26:16
 sub-last : tie.Need-sub-last Inv-loop μ-loop
 sub-last c = omega (arith, c .before .before .pre .two)
 
--- src/load.rt:29:5
 loop-holds : tie.Need-loop-holds Inv-loop μ-loop
 loop-holds c = let g = c .before .before in
     (omega arith, refl, g .fits .first .fits, chain-first (g .args .s) (g .args .image .now) (g .args .first), filling-none _ _ _, refl)
 
--- src/load.rt:30:18
 cast-at : tie.Need-cast-at Inv-loop μ-loop
 cast-at c = omega arith
 
--- src/load.rt:32:13
 same-length : tie.Need-same-length Inv-loop μ-loop
 same-length c = omega arith
 
--- src/load.rt:32:13
 returns : tie.Need-returns Inv-loop μ-loop
 returns c = let l = c .before .before .loop in
     let g = c .before .before .before .before .before in
     chain-stops (g .args .s) (g .args .image .now) (g .args .n) (g .args .first) (length (g .args .difats .now)) (l .j) (l .difats) (omega arith) (rw (l .inv .3) at (c .if1 .taken))
 
--- src/load.rt:34:9
 mul-difats : tie.Need-mul-difats Inv-loop μ-loop
 mul-difats c = omega arith
 
--- src/load.rt:34:9
 slice-write-difats : tie.Need-slice-write-difats Inv-loop μ-loop
 slice-write-difats c = omega arith
 
--- src/load.rt:35:9
 entry-at-requires : tie.Need-entry-at-requires Inv-loop μ-loop
 entry-at-requires c κs = let g = c .before .before .before .before .before in
     (sector-within _ _ _ _ (g .pre) (c .if1 .left), last-within _ _ _ (g .pre))
 
--- src/load.rt:36:9
 add-j : tie.Need-add-j Inv-loop μ-loop
 add-j c = omega arith
 
--- src/load.rt:29:5
 loop-less : tie.Need-loop-less Inv-loop μ-loop
 loop-less c = omega arith
 
--- src/load.rt:29:5
 loop-again : tie.Need-loop-again Inv-loop μ-loop
 loop-again c = let l = c .before .before .before .loop in
-    let g = c .before .before .before .before .before .before in
-    (omega arith, l .inv .1, omega arith, chain-next (g .args .s) (g .args .image .now) (g .args .first) (l .j) (l .id) _ (l .inv .3) (c .entry-at .ensures),
-    filling-more _ _ (l .j) _ (l .difats) (l .id) (l .inv .4) (omega arith) (l .inv .3) (c .before .if1 .left), simp length-set (omega arith))
+    let g = c .before .before .before .before .before .before in (
+      omega arith,
+      l .inv .1,
+      omega arith,
+      chain-next (g .args .s) (g .args .image .now) (g .args .first) (l .j) (l .id) _ (l .inv .3) (c .entry-at .ensures),
+      filling-more _ _ (l .j) _ (l .difats) (l .id) (l .inv .4) (omega arith) (l .inv .3) (c .before .if1 .left),
+      simp length-set (omega arith),
+    )
 
--- src/load.rt:38:5
 ends-requires : tie.Need-ends-requires Inv-loop μ-loop
 ends-requires c κs = search needs
 
--- src/load.rt:22:1
 same-length-2 : tie.Need-same-length-2 Inv-loop μ-loop
 same-length-2 c = omega arith
 
--- src/load.rt:22:1
 returns-2 : tie.Need-returns-2 Inv-loop μ-loop
 returns-2 c = let l = c .before .before .loop in
     chain-ends _ _ _ _ (l .j) (l .id) _ (l .difats) _ (l .inv .4) (omega arith) (l .inv .3) (c .ends .ensures)
