@@ -3,15 +3,15 @@ use Prim.Native.Nat.{ℕ, zero, suc, _+_, _≤_, _<_}
 use mathlib.Core.Path.{_≡_, refl, sym, _∙_, ap}
 use mathlib.Core.Bool.{Bool, true, false, not}
 use mathlib.Core.List.{List, [], _∷_}
-use mathlib.Core.Logic.{_↔_, _⊎_, ⊎-elim, _≢_}
+use mathlib.Core.Logic.{_↔_, ⊎-elim, _≢_}
 use native.Mathlib.Omega.{arith}
 use native.Mathlib.Numerals.{add-one}
-use borrow.Author.Tests.{lt-ltb, ltb-true, eq-eqb, ne-eqb, eqb-true, eqb-false, not-true, not-false}
+use borrow.Author.Tests.{lt-ltb, ltb-true, eq-eqb, ne-eqb, eqb-true, eqb-false, not-true}
 use lib.Dec.{eqb, ltb}
 use lib.ListN.{length, getD, set, drop, length-set, drop-of-length-le}
 use lib.Seq.{drop-cons, getD-set-same, getD-set-other, set-getD}
 use Rattle.lists.specs.Lists.{both, every}
-use Rattle.lists.proofs.Cases.{same-or, below-or, true-or, not-both, both-left, both-right, both-true, every-at, every-yes, every-no, unlike}
+use Rattle.lists.proofs.Cases.{same-or, below-or, both-left, both-right, both-true, every-at, every-yes, every-no, unlike}
 use Rattle.consts.specs.Consts.{difatSector, fatSector}
 use Rattle.alloc.specs.Lists.{allBelow, different}
 use Rattle.alloc.specs.Judge.{allMarked, setAll, markedFat}
@@ -98,12 +98,17 @@ placed-more xs ps j at e h placed k hk =
   where
     earlier : (k : ℕ) → getD xs k 0 ≢ at → k < j + 1 → k < j
     earlier k n hk = ⊎-elim (λ (l : k < j). l) (λ (g : j ≤ k). let s : k ≡ j = omega arith in absurd (n (ap (λ (x : ℕ). getD xs x 0) s ∙ sym e))) (below-or k j)
+
     lt-suc : {a : ℕ} → a < j → a < j + 1
     lt-suc l = omega arith
 
+-- the entry of the k-th listed sector
+abbrev pub listedAt : List ℕ → List ℕ → ℕ → ℕ
+listedAt fat ids k = getD fat (getD ids k 0) 0
+
 -- the number at place j of the list has j stored
 abbrev pub standsAt : List ℕ → List ℕ → ℕ → Bool
-standsAt xs ps j = eqb (getD ps (getD xs j 0) 0) j
+standsAt xs ps j = eqb (listedAt ps xs j) j
 
 stored-own : (xs ps : List ℕ) → every (length xs) (standsAt xs ps) ≡ true → (j : ℕ) → j < length xs → getD ps (getD xs j 0) 0 ≡ j
 stored-own xs ps t j h = eqb-true _ j (every-at (length xs) (standsAt xs ps) t j h)
@@ -115,13 +120,16 @@ places-tell xs ps placed =
     (λ t. different-of xs (λ i j hi hj e. sym (stored-own xs ps t i hi) ∙ ap (λ (x : ℕ). getD ps x 0) e ∙ stored-own xs ps t j hj))
     (λ t. every-of (length xs) (standsAt xs ps) (λ j hj. eq-eqb _ j (different-at xs t (getD ps (getD xs j 0) 0) j (placed j hj .0) hj (placed j hj .1))))
 
--- a loop that compares two numbers in turn and keeps a flag: a turn where they are the same, and one where they are not
-pub same-turn : (f g : ℕ → ℕ) (j a b : ℕ) (flag next : Bool) → a ≡ f j → b ≡ g j → a ≡ b → flag ≡ every j (λ k. eqb (f k) (g k)) → next ≡ flag
-    → next ≡ every (j + 1) (λ k. eqb (f k) (g k))
-same-turn f g j a b flag next p q s e stays = every-yes (λ k. eqb (f k) (g k)) j flag next (eq-eqb (f j) (g j) (sym p ∙ s ∙ q)) e stays
+-- a loop that compares the listed entries in turn and keeps a flag: a turn where they are the same, and one where they are not
+pub same-turn : (fat ids : List ℕ) (g : ℕ → ℕ) (j at a : ℕ) (flag next : Bool) → at ≡ getD ids j 0 → a ≡ getD fat at 0 → a ≡ g j
+    → flag ≡ every j (λ k. eqb (listedAt fat ids k) (g k)) → next ≡ flag → next ≡ every (j + 1) (λ k. eqb (listedAt fat ids k) (g k))
+same-turn fat ids g j at a flag next p q s e stays =
+    every-yes (λ k. eqb (listedAt fat ids k) (g k)) j flag next (eq-eqb (listedAt fat ids j) (g j) (sym (q ∙ ap (λ (k : ℕ). getD fat k 0) p) ∙ s)) e stays
 
-pub other-turn : (f g : ℕ → ℕ) (j a b : ℕ) (next : Bool) → a ≡ f j → b ≡ g j → (a ≡ b → ⊥) → next ≡ false → next ≡ every (j + 1) (λ k. eqb (f k) (g k))
-other-turn f g j a b next p q n stops = every-no (λ k. eqb (f k) (g k)) j next (ne-eqb (f j) (g j) (λ s. n (p ∙ s ∙ sym q))) stops
+pub other-turn : (fat ids : List ℕ) (g : ℕ → ℕ) (j at a : ℕ) (next : Bool) → at ≡ getD ids j 0 → a ≡ getD fat at 0 → (a ≡ g j → ⊥)
+    → next ≡ false → next ≡ every (j + 1) (λ k. eqb (listedAt fat ids k) (g k))
+other-turn fat ids g j at a next p q n stops =
+    every-no (λ k. eqb (listedAt fat ids k) (g k)) j next (ne-eqb (listedAt fat ids j) (g j) (λ s. n (q ∙ ap (λ (k : ℕ). getD fat k 0) p ∙ s))) stops
 
 -- every listed sector has the entry v, at each place
 pub marked-at : (fat ids : List ℕ) (v : ℕ) → allMarked fat ids v ≡ true → (j : ℕ) → j < length ids → getD fat (getD ids j 0) 0 ≡ v

@@ -10,7 +10,7 @@ ghost use Rattle.alloc.specs.Lists.{allBelow, different as noneTwice};
 ghost use Rattle.alloc.specs.Judge.{allMarked, setAll, markedFat};
 
 // A sector's number as an index.
-fn index(x: u32) -> usize
+pub(crate) fn index(x: u32) -> usize
     ensures { λ r. ⌜ r ≡ x ⌝ }
 {
     x as usize
@@ -32,7 +32,7 @@ fn put_places(list: &[u32], scratch: &mut [u32])
     }
 }
 
-// Whether each number of the list has its own place stored. No early way out: a list that opens is looked at to its end.
+// Whether each number of the list has its own place stored. No early way out: a right list is looked at to its end.
 fn places_stand(list: &[u32], scratch: &[u32]) -> bool
     requires { ⌜ allBelow (length (now scratch)) (now list) ≡ true ⌝ }
     ensures { λ r. ⌜ r ≡ every (length (now (list .entry))) (λ j. eqb (getD (now (scratch .entry)) (getD (now (list .entry)) j 0) 0) j) ⌝ }
@@ -49,7 +49,7 @@ fn places_stand(list: &[u32], scratch: &[u32]) -> bool
     stand
 }
 
-// Whether no number stands twice in the list. The scratch may hold anything before, and holds no more than numbers after.
+// Whether no number stands twice in the list. The scratch may hold anything before; what it holds after is not said.
 pub(crate) fn different(list: &[u32], scratch: &mut [u32]) -> bool
     requires { ⌜ allBelow (length (now scratch)) (now list) ≡ true ⌝ }
     requires { ⌜ length (now list) ≤ 65536 ⌝ }
@@ -59,7 +59,7 @@ pub(crate) fn different(list: &[u32], scratch: &mut [u32]) -> bool
     places_stand(list, scratch)
 }
 
-// Whether the entry of every listed sector is v.
+// Whether the entry of every listed sector is v. No early way out either.
 pub(crate) fn all_marked(fat: &[u32], ids: &[u32], v: u32) -> bool
     requires { ⌜ allBelow (length (now fat)) (now ids) ≡ true ⌝ }
     ensures { λ r. ⌜ r ≡ allMarked (now (fat .entry)) (now (ids .entry)) v ⌝ }

@@ -1,18 +1,19 @@
-use Prim.Native.Nat.{ℕ, _≤_, _<_, _-_}
-use mathlib.Core.Path.{_≡_, refl, _∙_, ap}
+-- `marks::all_marked` meets its contract: the flag says whether the sectors passed have the entry.
+use Prim.Native.Nat.{_≤_, _<_, _-_}
+use mathlib.Core.Path.{_≡_, refl}
 use mathlib.Core.Logic.{⊎-elim}
 use native.Mathlib.Omega.{arith}
 use borrow.Author.Needs.{needs}
-use lib.ListN.{length, getD}
+use lib.ListN.{length}
 use Rattle.lists.specs.Lists.{every}
 use lib.Dec.{eqb}
 use Rattle.alloc.specs.Judge.{allMarked}
-use Rattle.alloc.proofs.Marking.{below-given, same-turn, other-turn}
+use Rattle.alloc.proofs.Marking.{listedAt, below-given, same-turn, other-turn}
 use Rattle.alloc.proofs.marks.all_marked.Statement.{statement}
 use Rattle.alloc.proofs.marks.all_marked.Tie as tie
 
 abbrev Inv-loop : tie.InvT-loop
-Inv-loop fat ids v marked₀ j₀ marked j = (j ≤ length ids) × (marked ≡ every j (λ k. eqb (getD fat (getD ids k 0) 0) v))
+Inv-loop fat ids v marked₀ j₀ marked j = (j ≤ length ids) × (marked ≡ every j (λ k. eqb (listedAt fat ids k) v))
 
 abbrev μ-loop : tie.MeasureT-loop
 μ-loop fat ids v marked₀ j₀ marked j = length ids - j
@@ -50,13 +51,12 @@ loop-less c = omega arith
 
 loop-again : tie.Need-loop-again Inv-loop μ-loop
 loop-again c = let l = c .before .before .before .before .before .loop in
-    let g = c .before .before .before .before .before .before .before .before in
-    let f : ℕ → ℕ = λ k. getD (g .args .fat .now) (getD (g .args .ids .now) k 0) 0 in
-    let is : getD (g .args .fat .now) (c .before .before .index .result) 0 ≡ f (l .j) = ap (λ (k : ℕ). getD (g .args .fat .now) k 0) (c .before .before .index .ensures) in (
+    let at = c .before .before .index in
+    let a = c .before .before .before .before .before .before .before .before .args in (
       omega arith,
       ⊎-elim
-          (λ w. other-turn f (λ k. g .args .v) (l .j) _ _ (c .if1 .marked) is refl (w .0 .taken) (w .1))
-          (λ w. same-turn f (λ k. g .args .v) (l .j) _ _ (l .marked) (c .if1 .marked) is refl (w .0 .left) (l .inv .1) (w .1))
+          (λ w. other-turn (a .fat .now) (a .ids .now) (λ k. a .v) (l .j) (at .result) _ (c .if1 .marked) (at .ensures) refl (w .0 .taken) (w .1))
+          (λ w. same-turn (a .fat .now) (a .ids .now) (λ k. a .v) (l .j) (at .result) _ (l .marked) (c .if1 .marked) (at .ensures) refl (w .0 .left) (l .inv .1) (w .1))
           (c .if1 .came),
     )
 

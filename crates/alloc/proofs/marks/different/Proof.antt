@@ -1,3 +1,4 @@
+-- `marks::different` meets its contract: each stored place is one of its number, so all stand exactly where no number has two.
 use mathlib.Core.Path.{_∙_}
 use Rattle.alloc.proofs.Marking.{below-kept, places-tell}
 use Rattle.alloc.proofs.marks.different.Statement.{statement}

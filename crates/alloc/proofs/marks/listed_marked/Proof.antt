@@ -1,8 +1,9 @@
+-- `marks::listed_marked` meets its contract: the second list is looked at where the first has its marks.
 use mathlib.Core.Path.{_∙_, sym}
+use borrow.Author.Needs.{needs}
 use borrow.Author.Tests.{not-true, not-false}
 use Rattle.lists.proofs.Cases.{both-false-left}
 use Rattle.alloc.proofs.Marking.{both-of-true}
-use borrow.Author.Needs.{needs}
 use Rattle.alloc.proofs.marks.listed_marked.Statement.{statement}
 use Rattle.alloc.proofs.marks.listed_marked.Tie as tie
 

@@ -1,9 +1,10 @@
-use Prim.Native.Nat.{ℕ, _≤_, _<_, _-_}
-use mathlib.Core.Path.{_≡_, refl, _∙_, ap}
+-- `marks::places_stand` meets its contract: the flag says whether the places passed stand.
+use Prim.Native.Nat.{_≤_, _<_, _-_}
+use mathlib.Core.Path.{_≡_, refl}
 use mathlib.Core.Logic.{⊎-elim}
 use native.Mathlib.Omega.{arith}
 use borrow.Author.Needs.{needs}
-use lib.ListN.{length, getD}
+use lib.ListN.{length}
 use Rattle.lists.specs.Lists.{every}
 use Rattle.alloc.proofs.Marking.{below-given, standsAt, same-turn, other-turn}
 use Rattle.alloc.proofs.marks.places_stand.Statement.{statement}
@@ -51,13 +52,13 @@ loop-less c = omega arith
 
 loop-again : tie.Need-loop-again Inv-loop μ-loop
 loop-again c = let l = c .before .before .before .before .before .before .loop in
-    let g = c .before .before .before .before .before .before .before .before .before in
-    let f : ℕ → ℕ = λ k. getD (g .args .scratch .now) (getD (g .args .list .now) k 0) 0 in
-    let is : c .before .index2 .result ≡ f (l .j) = c .before .index2 .ensures ∙ ap (λ (k : ℕ). getD (g .args .scratch .now) k 0) (c .before .before .before .index .ensures) in (
+    let at = c .before .before .before .index in
+    let stored = c .before .index2 in
+    let a = c .before .before .before .before .before .before .before .before .before .args in (
       omega arith,
       ⊎-elim
-          (λ w. other-turn f (λ k. k) (l .j) _ _ (c .if1 .stand) is refl (w .0 .taken) (w .1))
-          (λ w. same-turn f (λ k. k) (l .j) _ _ (l .stand) (c .if1 .stand) is refl (w .0 .left) (l .inv .1) (w .1))
+          (λ w. other-turn (a .scratch .now) (a .list .now) (λ k. k) (l .j) (at .result) (stored .result) (c .if1 .stand) (at .ensures) (stored .ensures) (w .0 .taken) (w .1))
+          (λ w. same-turn (a .scratch .now) (a .list .now) (λ k. k) (l .j) (at .result) (stored .result) (l .stand) (c .if1 .stand) (at .ensures) (stored .ensures) (w .0 .left) (l .inv .1) (w .1))
           (c .if1 .came),
     )
 

@@ -1,3 +1,4 @@
+-- `marks::set_listed` meets its contract: two calls, and the length stays.
 use mathlib.Core.Path.{_∙_}
 use Rattle.alloc.proofs.Marking.{below-kept, markedFat-two}
 use Rattle.alloc.proofs.marks.set_listed.Statement.{statement}
