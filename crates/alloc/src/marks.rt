@@ -17,7 +17,7 @@ pub(crate) fn index(x: u32) -> usize
 }
 
 // Stores at each number of the list a place where the list has that number.
-fn put_places(list: &[u32], scratch: &mut [u32])
+pub(crate) fn put_places(list: &[u32], scratch: &mut [u32])
     requires { ⌜ allBelow (length (now scratch)) (now list) ≡ true ⌝ }
     requires { ⌜ length (now list) ≤ 65536 ⌝ }
     ensures { λ _. ⌜ ((j : ℕ) → j < length (now (list .entry))
@@ -33,7 +33,7 @@ fn put_places(list: &[u32], scratch: &mut [u32])
 }
 
 // Whether each number of the list has its own place stored. No early way out: a right list is looked at to its end.
-fn places_stand(list: &[u32], scratch: &[u32]) -> bool
+pub(crate) fn places_stand(list: &[u32], scratch: &[u32]) -> bool
     requires { ⌜ allBelow (length (now scratch)) (now list) ≡ true ⌝ }
     ensures { λ r. ⌜ r ≡ every (length (now (list .entry))) (λ j. eqb (getD (now (scratch .entry)) (getD (now (list .entry)) j 0) 0) j) ⌝ }
 {

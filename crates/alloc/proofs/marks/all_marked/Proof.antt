@@ -4,9 +4,9 @@ use mathlib.Core.Path.{_≡_, refl}
 use mathlib.Core.Logic.{⊎-elim}
 use native.Mathlib.Omega.{arith}
 use borrow.Author.Needs.{needs}
+use lib.Dec.{eqb}
 use lib.ListN.{length}
 use Rattle.lists.specs.Lists.{every}
-use lib.Dec.{eqb}
 use Rattle.alloc.specs.Judge.{allMarked}
 use Rattle.alloc.proofs.Marking.{listedAt, below-given, same-turn, other-turn}
 use Rattle.alloc.proofs.marks.all_marked.Statement.{statement}
