@@ -1,2 +1,4 @@
 pub mod Examples
+pub mod Judging
 pub mod Loading
+pub mod Marking

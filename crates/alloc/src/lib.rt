@@ -1,2 +1,4 @@
 // The allocation tables of a compound file: the opening (document 01, refusals 10 to 18).
+mod judge;
 mod load;
+mod marks;
