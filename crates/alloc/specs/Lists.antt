@@ -96,14 +96,18 @@ unfoldable pub idsRight : ℕ → List ℕ → Bool
 unfolding allBelow different
 idsRight n fats = both (allBelow n fats) (different fats)
 
+-- document 01, 12: the FAT's list, with FREE behind it
+unfoldable pub fatsRight : ℕ → List ℕ → ℕ → List ℕ → List ℕ → ℕ → Bool
+unfolding restFree idsRight fatsOf
+fatsRight S img n list difats k = both (restFree S img list difats k (length difats)) (idsRight n (fatsOf S img list difats k))
+
 -- document 01, 12, as a whole
 unfoldable pub listsRight : ℕ → List ℕ → Header → ℕ → Bool
-unfolding countsRight chainRight restFree idsRight fatCount difatCount difatsOf fatsOf
+unfolding countsRight chainRight fatsRight fatCount difatCount difatsOf
 listsRight S img h n =
     both (countsRight h (fatCount S n) (difatCount S (fatCount S n)))
     (both (chainRight S img (h .difat) n (difatCount S (fatCount S n)))
-    (both (restFree S img (h .list) (difatsOf S img (h .difat) (difatCount S (fatCount S n))) (fatCount S n) (difatCount S (fatCount S n)))
-    (idsRight n (fatsOf S img (h .list) (difatsOf S img (h .difat) (difatCount S (fatCount S n))) (fatCount S n)))))
+    (fatsRight S img n (h .list) (difatsOf S img (h .difat) (difatCount S (fatCount S n))) (fatCount S n)))
 
 -- document 01, 13: the entries from n on are FREE
 unfoldable pub tailFree : ℕ → List ℕ → List ℕ → ℕ → Bool

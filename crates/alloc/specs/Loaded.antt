@@ -33,3 +33,8 @@ pub record Covers (S n len : ℕ) (fats : List ℕ) (m : ℕ) : Type 0 where
   pub enough : m ≤ length fats * perSector S
   pub last : length fats * perSector S < m + perSector S
   pub small : m ≤ 2 ^ 32
+
+-- a lent list is filled: whether what it then holds is right, and, where it is, that it is xs
+pub record Loads (test : Bool) (xs : List ℕ) (r : Bool) (after : List ℕ) : Type 0 where
+  pub right : r ≡ test
+  pub list : r ≡ true → after ≡ xs

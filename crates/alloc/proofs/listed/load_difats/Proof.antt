@@ -1,0 +1,47 @@
+use borrow.Author.Needs.{needs}
+use Rattle.alloc.proofs.listed.load_difats.Statement.{statement}
+use Rattle.alloc.proofs.listed.load_difats.Tie as tie
+use Rattle.alloc.proofs.listed.load_difats.Reads as reads
+use Rattle.alloc.proofs.listed.load_difats.Lts as lts
+use Rattle.alloc.proofs.load.list_difats.Reads as list-difats-reads
+use Rattle.alloc.proofs.marks.different.Reads as different-reads
+
+-- src/listed.rt:54:9
+list-difats-requires : tie.Need-list-difats-requires
+list-difats-requires c κs = search needs
+
+-- src/listed.rt:55:9
+same-length : tie.Need-same-length
+same-length c = search needs
+
+-- src/listed.rt:55:9
+returns : tie.Need-returns
+returns c = ?
+
+-- src/listed.rt:57:5
+different-requires : tie.Need-different-requires
+different-requires c κs = ?
+
+-- src/listed.rt:42:1
+same-length-2 : tie.Need-same-length-2
+same-length-2 c = search needs
+
+-- src/listed.rt:42:1
+same-length-3 : tie.Need-same-length-3
+same-length-3 c = search needs
+
+-- src/listed.rt:42:1
+returns-2 : tie.Need-returns-2
+returns-2 c = ?
+
+pub load-difats-spec : {M : Type 1} → statement M
+load-difats-spec =
+    tie.close
+    (tie.spec
+    list-difats-requires
+    same-length
+    returns
+    different-requires
+    same-length-2
+    same-length-3
+    returns-2)
