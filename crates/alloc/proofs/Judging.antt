@@ -1,21 +1,21 @@
 -- The laws of a FAT's marks, of its judging and of its FREE sectors. Assumes nothing.
 use Prim.Native.Nat.{ℕ, zero, suc, _+_, _-_, _≤_, _<_}
 use mathlib.Core.Path.{_≡_, refl, sym, _∙_, ap}
-use mathlib.Core.Bool.{Bool, true, false, not}
+use mathlib.Core.Bool.{Bool, true, false, not, _&&_, _||_}
 use mathlib.Core.List.{List, [], _∷_, _++_, append-nil}
 use mathlib.Core.Logic.{_⊎_, inl, inr, ⊎-elim, _≢_, _↔_}
 use native.Mathlib.Omega.{arith}
 use native.Mathlib.Numerals.{add-one}
 use native.Mathlib.Nat.{sub-zero, add-zero, zero-add}
-use borrow.Author.Tests.{le-leb, lt-leb, lt-ltb, le-ltb, eq-eqb, ne-eqb, eqb-true, eqb-false, leb-true, leb-false}
+use borrow.Author.Tests.{le-leb, lt-leb, lt-ltb, le-ltb, eq-eqb, ne-eqb, eqb-true}
 use lib.Dec.{eqb, leb, ltb}
-use lib.ListN.{length, getD, set, drop, replicate, length-append, length-set, length-drop, getD-replicate, length-replicate}
+use lib.ListN.{length, getD, set, drop, replicate, length-append, length-set, getD-replicate, length-replicate}
 use lib.Seq.{getD-set-same, getD-set-other, set-getD, drop-cons, set-at, append-snoc}
-use Rattle.lists.specs.Lists.{choose, both, either, every, tab}
-use Rattle.lists.proofs.Cases.{below-or, same-or, not-both, both-true, both-false-left, both-false-right, either-cases, either-right, every-yes, every-no}
+use Rattle.lists.specs.Lists.{choose, both, either, every}
+use Rattle.lists.proofs.Cases.{below-or, same-or, not-both, both-true, both-false-left, both-false-right, either-cases, either-right}
 use Rattle.lists.proofs.Tab.{length-tab, getD-tab, is-tab}
 use Rattle.consts.specs.Consts.{maxRegular, invalidSector, endOfChain, freeSector}
-use Rattle.alloc.specs.Judge.{regular, forgiven, pointed, wrongAt, firstWrong, forgivenFat, marksOf, noneDangles, freesFrom, freesOf}
+use Rattle.alloc.specs.Judge.{regular, forgiven, pointed, wrongAt, firstWrong, forgivenFat, marksOf, freesFrom, freesOf}
 use Rattle.alloc.specs.Judged.{wrongBy, markedBy, JudgedOne, Judged, Listed}
 
 -- who points at a sector: one entry more
@@ -315,23 +315,26 @@ module _ (strict : Bool) (i : ℕ) (fat marks : List ℕ) where
       marked = λ z. sym (marked-set (length fat) marks (getD fat i 0) r l);
     }
 
--- the loop that looks for a FREE sector that is pointed to: what it tests, by the mark and by the entry
+-- the loop that looks for a FREE sector that is pointed to: what holds of a sector, and a turn
 abbrev pub sound : ℕ → List ℕ → ℕ → Bool
 sound n fat i = not (both (pointed fat n i) (eqb (getD fat i 0) freeSector))
 
-module _ (n : ℕ) (fat marks : List ℕ) (i : ℕ) (e : marks ≡ marksOf n fat) (h : i < n) where
-  pub dangling : getD fat i 0 ≡ freeSector → getD marks i 0 ≡ 1 → sound n fat i ≡ false
-  dangling f m =
-      ap not (both-true (mark-one (pointed fat n i) (sym (mark-at n fat marks i e h) ∙ m)) (eq-eqb (getD fat i 0) freeSector f))
-
-  pub sound-used : (getD fat i 0 ≡ freeSector → ⊥) → sound n fat i ≡ true
-  sound-used d = ap not (both-false-right (pointed fat n i) (eqb (getD fat i 0) freeSector) (ne-eqb (getD fat i 0) freeSector d))
-
-  pub sound-unmarked : (getD marks i 0 ≡ 1 → ⊥) → sound n fat i ≡ true
-  sound-unmarked d =
-      ap not
-      (both-false-left (pointed fat n i) (eqb (getD fat i 0) freeSector)
-      (sym (mark-tests (pointed fat n i)) ∙ ne-eqb (markOf (pointed fat n i)) 1 (λ z. d (mark-at n fat marks i e h ∙ z))))
+pub sound-more : (n : ℕ) (fat marks : List ℕ) (i : ℕ) (fine : Bool) → marks ≡ marksOf n fat → i < n → fine ≡ every i (sound n fat)
+    → (fine && (not (eqb (getD fat i 0) freeSector) || not (eqb (getD marks i 0) 1))) ≡ every (i + 1) (sound n fat)
+unfolding every
+sound-more n fat marks i fine e h f =
+    let p : eqb (getD marks i 0) 1 ≡ pointed fat n i = ap (λ (x : ℕ). eqb x 1) (mark-at n fat marks i e h) ∙ mark-tests (pointed fat n i) in
+    rw (add-one i, p, f) (at (eqb (getD fat i 0) freeSector) (pointed fat n i) (every i (sound n fat)))
+  where
+    at : (a p r : Bool) → (r && (not a || not p)) ≡ both (not (both p a)) r
+    at true true true = refl
+    at true true false = refl
+    at true false true = refl
+    at true false false = refl
+    at false true true = refl
+    at false true false = refl
+    at false false true = refl
+    at false false false = refl
 
 -- the FREE sectors, from the front: one that is, one that is not
 frees-yes : (fat : List ℕ) (i c : ℕ) → getD fat i 0 ≡ freeSector → freesFrom fat i (suc c) ≡ i ∷ freesFrom fat (suc i) c
@@ -351,7 +354,7 @@ unfolding freesFrom tail-of
 frees-snoc fat i zero = rw add-zero
 frees-snoc fat i (suc c) =
     let rest : freesFrom fat (suc i) (suc c) ≡ freesFrom fat (suc i) c ++ tail-of fat (i + suc c) =
-        frees-snoc fat (suc i) c ∙ ap (λ (k : ℕ). freesFrom fat (suc i) c ++ tail-of fat k) (omega arith) in
+    frees-snoc fat (suc i) c ∙ ap (λ (k : ℕ). freesFrom fat (suc i) c ++ tail-of fat k) (omega arith) in
     ⊎-elim
     (λ (e : getD fat i 0 ≡ freeSector). frees-yes fat i (suc c) e ∙ ap (λ (l : List ℕ). i ∷ l) rest ∙ sym (ap (λ (l : List ℕ). l ++ tail-of fat (i + suc c)) (frees-yes fat i c e)))
     (λ (d : getD fat i 0 ≢ freeSector). frees-no fat i (suc c) d ∙ rest ∙ sym (ap (λ (l : List ℕ). l ++ tail-of fat (i + suc c)) (frees-no fat i c d)))
@@ -425,7 +428,7 @@ unfolding freesFrom
 ascend-from fat i zero j k h l = absurd (omega arith)
 ascend-from fat i (suc c) j k h l =
     let rest : (j k : ℕ) → j < k → k < length (freesFrom fat (suc i) c) → getD (freesFrom fat (suc i) c) j 0 < getD (freesFrom fat (suc i) c) k 0 =
-        ascend-from fat (suc i) c in
+    ascend-from fat (suc i) c in
     ⊎-elim
     (λ (e : getD fat i 0 ≡ freeSector). rw (frees-yes fat i c e) (front rest j k h (rw (frees-yes fat i c e) at l)))
     (λ (d : getD fat i 0 ≢ freeSector). rw (frees-no fat i c d) (rest j k h (rw (frees-no fat i c d) at l)))
@@ -469,9 +472,9 @@ module _ {fat before : List ℕ} {i count : ℕ} {frees : List ℕ} (g : Listing
       let all : i ≡ length fat = omega (arith, g .most) in
       record { number = rw all at (g .number); list = rw all at (g .list) }
 
-  module _ (h : i < length fat) (room : length fat ≤ length before) where
-    pub listing-more : getD fat i 0 ≡ freeSector → Listing fat before (i + 1) (count + 1) (set frees count i)
-    listing-more e = record {
+  module _ (h : i < length fat) where
+    pub listing-more : length fat ≤ length before → getD fat i 0 ≡ freeSector → Listing fat before (i + 1) (count + 1) (set frees count i)
+    listing-more room e = record {
       most = omega arith;
       few = omega (arith, g .few);
       long = length-set frees count i ∙ g .long;

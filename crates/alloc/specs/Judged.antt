@@ -1,7 +1,7 @@
 -- What the judging of a FAT leaves (document 01, 15 to 17), and the listing of its FREE sectors. Assumes nothing.
 use Prim.Native.Nat.{ℕ}
 use mathlib.Core.Path.{_≡_}
-use mathlib.Core.Bool.{Bool, true, false}
+use mathlib.Core.Bool.{Bool}
 use mathlib.Core.List.{List, _++_}
 use lib.Dec.{eqb, ltb, leb}
 use lib.ListN.{length, getD, set, drop}

@@ -1,10 +1,9 @@
 // What the entries of a FAT say of its sectors (document 01, refusals 15 to 18), and the list of the FREE ones.
 ghost use mathlib.Core.Path.{_≡_};
-ghost use mathlib.Core.List.{_++_};
 ghost use Prim.Native.Nat.{_≤_, _<_};
-ghost use lib.ListN.{length, drop, replicate};
+ghost use lib.ListN.{length, replicate};
 ghost use Rattle.consts.specs.Consts.{maxRegular};
-ghost use Rattle.alloc.specs.Judge.{marksOf, noneDangles, freesOf};
+ghost use Rattle.alloc.specs.Judge.{marksOf, noneDangles};
 ghost use Rattle.alloc.specs.Judged.{Judged, JudgedOne, Listed};
 
 // Judges sector i by the marks that the sectors below it made: 0, or 15, 16 or 17. At 0 its entry is forgiven, and the sector that it points at is marked.
@@ -52,7 +51,7 @@ pub(crate) fn judge(strict: bool, fat: &mut [u32], marks: &mut [u8]) -> u32
     0
 }
 
-// Whether no pointed-to sector is FREE. No early way out: so the loop runs on vectors.
+// Whether no pointed-to sector is FREE. No branch in the loop: so it runs on vectors.
 pub(crate) fn none_dangles(fat: &[u32], marks: &[u8]) -> bool
     requires { ⌜ now marks ≡ marksOf (length (now fat)) (now fat) ⌝ }
     ensures { λ r. ⌜ r ≡ noneDangles (length (now (fat .entry))) (now (fat .entry)) ⌝ }
@@ -60,11 +59,7 @@ pub(crate) fn none_dangles(fat: &[u32], marks: &[u8]) -> bool
     let mut fine = true;
     let mut i = 0;
     while i < fat.len() {
-        let e = fat[i];
-        let m = marks[i];
-        if e == consts::FREE_SECTOR && m == 1 {
-            fine = false;
-        }
+        fine = fine & ((fat[i] != consts::FREE_SECTOR) | (marks[i] != 1));
         i += 1;
     }
     fine

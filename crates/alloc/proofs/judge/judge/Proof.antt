@@ -1,3 +1,4 @@
+-- The invariant: what is wrong from sector i on is what is wrong at all, and the entries below i are forgiven and marked.
 use Prim.Native.Nat.{ℕ, _-_}
 use mathlib.Core.Path.{_≡_, _∙_, sym, ap}
 use native.Mathlib.Omega.{arith}
@@ -12,6 +13,10 @@ Inv-loop strict fat₀ marks₀ i₀ fat marks i = Judging strict fat₀ i fat m
 abbrev μ-loop : tie.MeasureT-loop
 μ-loop strict fat₀ marks₀ i₀ fat marks i = length fat₀ - i
 
+-- a turn's place before its call, from the place after it
+abbrev turn : tie.After-judge-one Inv-loop μ-loop → tie.In-loop Inv-loop μ-loop
+turn c = c .before .before .before
+
 -- the marks are as many as they were
 as-long : (c : tie.At-loop Inv-loop μ-loop) → length (c .loop .marks) ≡ length (c .before .before .before .args .marks .now)
 as-long c = c .loop .inv .marked .long ∙ sym (ap length (c .before .before .before .pre .1) ∙ length-replicate {A = ℕ} _ 0)
@@ -23,16 +28,19 @@ judge-one-requires : tie.Need-judge-one-requires Inv-loop μ-loop
 judge-one-requires c κs = omega (arith, as-long (c .before .before .before))
 
 same-length : tie.Need-same-length Inv-loop μ-loop
-same-length c = let call = c .before .before .before .before .before in
-    call .judge-one .kept .1 .1 .0 ∙ call .before .before .before .before .loop .inv .table .long
+same-length c =
+    let call = c .before .before .before .before .before in
+    call .judge-one .kept .1 .1 .0 ∙ turn call .before .loop .inv .table .long
 
 same-length-2 : tie.Need-same-length-2 Inv-loop μ-loop
-same-length-2 c = let call = c .before .before .before .before .before in
-    call .judge-one .kept .1 .1 .1 .0 ∙ as-long (call .before .before .before .before)
+same-length-2 c =
+    let call = c .before .before .before .before .before in
+    call .judge-one .kept .1 .1 .1 .0 ∙ as-long (turn call .before)
 
 returns : tie.Need-returns Inv-loop μ-loop
-returns c = let call = c .before .before .before .before .before in
-    judging-stops (call .before .before .before .before .loop .inv) (call .before .before .before .loop-test .taken) (call .judge-one .ensures) (c .if1 .taken)
+returns c =
+    let call = c .before .before .before .before .before in
+    judging-stops (turn call .before .loop .inv) (turn call .loop-test .taken) (call .judge-one .ensures) (c .if1 .taken)
 
 add-i : tie.Need-add-i Inv-loop μ-loop
 add-i c = omega arith
@@ -41,8 +49,9 @@ loop-less : tie.Need-loop-less Inv-loop μ-loop
 loop-less c = omega arith
 
 loop-again : tie.Need-loop-again Inv-loop μ-loop
-loop-again c = let call = c .before .before .before .before .before in
-    judging-more (call .before .before .before .before .loop .inv) (call .before .before .before .loop-test .taken) (call .judge-one .ensures) (c .if1 .left)
+loop-again c =
+    let call = c .before .before .before .before .before in
+    judging-more (turn call .before .loop .inv) (turn call .loop-test .taken) (call .judge-one .ensures) (c .if1 .left)
 
 same-length-3 : tie.Need-same-length-3 Inv-loop μ-loop
 same-length-3 c = c .before .loop .inv .table .long

@@ -1,3 +1,4 @@
+-- Each way out is one of the cases of an entry: reserved, special, past the end, pointing at a marked sector or at an unmarked one.
 use Rattle.alloc.proofs.Judging.{one-reserved, one-special, one-past-strict, one-past, one-twice, one-first}
 use borrow.Author.Needs.{needs}
 use Rattle.alloc.proofs.judge.judge_one.Statement.{statement}

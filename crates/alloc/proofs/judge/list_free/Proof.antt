@@ -1,3 +1,4 @@
+-- The invariant: the list holds the FREE sectors below i, and then what it held before.
 use Prim.Native.Nat.{_-_}
 use mathlib.Core.Logic.{⊎-elim}
 use borrow.Author.Needs.{needs}
@@ -41,12 +42,12 @@ loop-less : tie.Need-loop-less Inv-loop μ-loop
 loop-less c = omega arith
 
 loop-again : tie.Need-loop-again Inv-loop μ-loop
-loop-again c = let l = c .before .before .before .loop in
-    let g = c .before .before .before .before in
+loop-again c =
+    let top = c .before .before .before in
     let h = c .before .before .loop-test .taken in
     ⊎-elim
-    (λ w. rw (w .1, w .2) (listing-more (l .inv) h (g .pre .0) (w .0 .taken)))
-    (λ w. rw (w .1, w .2) (listing-same (l .inv) h (g .pre .0) (w .0 .left)))
+    (λ w. rw (w .1, w .2) (listing-more (top .loop .inv) h (top .before .pre .0) (w .0 .taken)))
+    (λ w. rw (w .1, w .2) (listing-same (top .loop .inv) h (w .0 .left)))
     (c .if1 .came)
 
 same-length : tie.Need-same-length Inv-loop μ-loop
