@@ -1,13 +1,17 @@
 -- The laws of the lists as a whole (document 01, 12). Assumes nothing.
-use Prim.Native.Nat.{ℕ, _+_, _-_, _*_, _≤_, _<_}
+use Prim.Native.Nat.{ℕ, _+_, _-_, _*_, _≤_, _<_, min}
 use mathlib.Core.Path.{_≡_, refl, sym, _∙_, ap}
 use mathlib.Core.Bool.{Bool, true, false}
 use mathlib.Core.List.{List}
 use native.Mathlib.Omega.{arith}
+use borrow.Author.Tests.{eq-eqb}
+use lib.Dec.{eqb}
 use lib.ListN.{length, getD}
 use Rattle.lists.specs.Lists.{both}
 use Rattle.lists.proofs.Cases.{both-left, both-right, both-false-left, both-false-right, not-both}
-use Rattle.alloc.specs.Lists.{difatAt, difatsOf, fatsOf, allBelow, different, ends, chainRight, restFree, idsRight, fatsRight}
+use Rattle.header.specs.Fields.{idsIn}
+use Rattle.header.specs.declared.Header.{Header}
+use Rattle.alloc.specs.Lists.{countsRight, difatAt, difatsOf, fatsOf, allBelow, different, ends, chainRight, restFree, idsRight, fatsRight}
 use Rattle.alloc.specs.Loaded.{ChainListed, PlacesListed, Loads}
 use Rattle.alloc.proofs.Marking.{below-at, below-of}
 
@@ -23,7 +27,7 @@ loads-not test xs after e = record { right = sym e; list = λ t. absurd (not-bot
 module _ (S : ℕ) (img : List ℕ) (n first d : ℕ) where
   pub chain-not : (r : Bool) (now : List ℕ) → ChainListed S img n first d r now → r ≡ false → Loads (chainRight S img first n d) (difatsOf S img first d) false now
   unfolding chainRight
-  chain-not r now c e = loads-not _ _ now (split _ _ _ (sym (c .right) ∙ e))
+  chain-not r now c e = loads-not _ _ now (split (allBelow n (difatsOf S img first d)) (different (difatsOf S img first d)) (ends (difatAt S img first d)) (sym (c .right) ∙ e))
     where
       split : (a b e : Bool) → both a e ≡ false → both a (both b e) ≡ false
       split true b e h = both-false-right b e h
@@ -36,8 +40,10 @@ module _ (S : ℕ) (img : List ℕ) (n first d : ℕ) where
   unfolding chainRight
   chain-loads r q now c e f =
       let all : both (allBelow n (difatsOf S img first d)) (ends (difatAt S img first d)) ≡ true = sym (c .right) ∙ e in
+      let below : allBelow n (difatsOf S img first d) ≡ true = both-left _ _ all in
+      let ended : ends (difatAt S img first d) ≡ true = both-right (allBelow n (difatsOf S img first d)) _ all in
       record
-      { right = f ∙ ap different (c .listed e) ∙ sym (rw (both-left _ _ all, both-right _ _ all) (last (different (difatsOf S img first d))))
+      { right = f ∙ ap different (c .listed e) ∙ sym (rw (below, ended) (last (different (difatsOf S img first d))))
       ; list = λ t. c .listed e }
     where
       last : (b : Bool) → both b true ≡ b
@@ -63,3 +69,8 @@ module _ (S : ℕ) (img : List ℕ) (n : ℕ) (list difats : List ℕ) (k : ℕ)
   unfolding fatsRight idsRight
   fats-load r q now c e f g =
       record { right = g ∙ ap different (c .listed e) ∙ sym (rw (f, sym (c .right) ∙ e)); list = λ t. c .listed e }
+
+-- the counts, once the first two are seen to be right
+pub counts-same : (h : Header) (k d ids m : ℕ) → h .fats ≡ k → h .difats ≡ d → ids ≡ idsIn (h .list) → m ≡ min k 109 → eqb ids m ≡ countsRight h k d
+unfolding countsRight
+counts-same h k d ids m ek ed ei em = sym (rw (eq-eqb _ _ ek, eq-eqb _ _ ed, ← ei, ← em))

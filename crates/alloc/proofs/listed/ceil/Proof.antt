@@ -1,3 +1,5 @@
+use mathlib.Core.Path.{refl}
+use Rattle.alloc.specs.Lists.{ceil}
 use borrow.Author.Needs.{needs}
 use Rattle.alloc.proofs.listed.ceil.Statement.{statement}
 use Rattle.alloc.proofs.listed.ceil.Tie as tie
@@ -18,7 +20,8 @@ div-result c = search needs
 
 -- src/listed.rt:18:1
 returns : tie.Need-returns
-returns c = ?
+unfolding ceil
+returns c = refl
 
 pub ceil-spec : {M : Type 1} → statement M
 ceil-spec = tie.close (tie.spec sub-result add-result div-result returns)
