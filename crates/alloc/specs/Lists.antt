@@ -101,13 +101,22 @@ unfoldable pub fatsRight : ℕ → List ℕ → ℕ → List ℕ → List ℕ �
 unfolding restFree idsRight fatsOf
 fatsRight S img n list difats k = both (restFree S img list difats k (length difats)) (idsRight n (fatsOf S img list difats k))
 
+-- the DIFAT sectors and the FAT sectors that a header and n sectors ask for
+unfoldable pub difatsIn : ℕ → List ℕ → Header → ℕ → List ℕ
+unfolding difatsOf fatCount difatCount
+difatsIn S img h n = difatsOf S img (h .difat) (difatCount S (fatCount S n))
+
+unfoldable pub fatsIn : ℕ → List ℕ → Header → ℕ → List ℕ
+unfolding fatsOf fatCount difatsIn
+fatsIn S img h n = fatsOf S img (h .list) (difatsIn S img h n) (fatCount S n)
+
 -- document 01, 12, as a whole
 unfoldable pub listsRight : ℕ → List ℕ → Header → ℕ → Bool
-unfolding countsRight chainRight fatsRight fatCount difatCount difatsOf
+unfolding countsRight chainRight fatsRight fatCount difatCount difatsIn
 listsRight S img h n =
     both (countsRight h (fatCount S n) (difatCount S (fatCount S n)))
     (both (chainRight S img (h .difat) n (difatCount S (fatCount S n)))
-    (fatsRight S img n (h .list) (difatsOf S img (h .difat) (difatCount S (fatCount S n))) (fatCount S n)))
+    (fatsRight S img n (h .list) (difatsIn S img h n) (fatCount S n)))
 
 -- document 01, 13: the entries from n on are FREE
 unfoldable pub tailFree : ℕ → List ℕ → List ℕ → ℕ → Bool

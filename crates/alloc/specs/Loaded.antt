@@ -5,8 +5,9 @@ use mathlib.Core.Bool.{Bool, true}
 use mathlib.Core.List.{List}
 use Rattle.lists.specs.Lists.{both}
 use lib.ListN.{length}
+use Rattle.header.specs.declared.Header.{Header}
 use Rattle.sectors.specs.Sectors.{perSector, Holds}
-use Rattle.alloc.specs.Lists.{difatAt, difatsOf, fatsOf, allBelow, ends}
+use Rattle.alloc.specs.Lists.{most, fatCount, difatCount, difatAt, difatsOf, fatsOf, difatsIn, fatsIn, allBelow, ends, listsRight}
 
 -- the DIFAT chain of d sectors is listed: whether it is right but for repeats, and the list where it is
 pub record ChainListed (S : ℕ) (img : List ℕ) (n first d : ℕ) (r : Bool) (difats : List ℕ) : Type 0 where
@@ -38,3 +39,17 @@ pub record Covers (S n len : ℕ) (fats : List ℕ) (m : ℕ) : Type 0 where
 pub record Loads (test : Bool) (xs : List ℕ) (r : Bool) (after : List ℕ) : Type 0 where
   pub right : r ≡ test
   pub list : r ≡ true → after ≡ xs
+
+-- the lent lists are as long as n sectors ask for, and n and the sectors are small enough
+pub record Counted (S n len k d : ℕ) : Type 0 where
+  pub holds : Holds S n len
+  pub short : S ≤ 65536
+  pub few : n ≤ most
+  pub fats : k ≡ fatCount S n
+  pub difats : d ≡ difatCount S k
+
+-- both lists are loaded: whether all is right, and, where it is, what the lent lists hold
+pub record ListsLoaded (S : ℕ) (img : List ℕ) (h : Header) (n : ℕ) (r : Bool) (fats difats : List ℕ) : Type 0 where
+  pub right : r ≡ listsRight S img h n
+  pub difats-hold : r ≡ true → difats ≡ difatsIn S img h n
+  pub fats-hold : r ≡ true → fats ≡ fatsIn S img h n

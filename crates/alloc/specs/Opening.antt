@@ -13,7 +13,7 @@ use Rattle.header.specs.declared.Validation.{Validation}
 use Rattle.header.specs.declared.Validation.the-variants.{Strict}
 use Rattle.header.specs.declared.Header.{Header}
 use Rattle.consts.specs.Consts.{difatSector, fatSector}
-use Rattle.alloc.specs.Lists.{most, sectorsIn, roomOf, fatCount, difatCount, difatsOf, fatsOf, fatOf, listsRight, tailFree}
+use Rattle.alloc.specs.Lists.{most, sectorsIn, roomOf, fatOf, difatsIn, fatsIn, listsRight, tailFree}
 use Rattle.alloc.specs.Judge.{allMarked, markedFat, firstWrong, forgivenFat, marksOf, noneDangles, freesOf}
 
 -- the tables of an opened image
@@ -24,13 +24,19 @@ pub record Tables : Type 0 where
   pub frees : List ℕ
   pub marks : List ℕ
 
--- the lists and the FAT that an image with header h has, if it has n sectors of S bytes; the FAT as the bytes have it
-unfoldable pub rawTables : ℕ → List ℕ → Header → ℕ → Tables
-unfolding fatCount difatCount difatsOf fatsOf fatOf
-rawTables S img h n =
-    let difats = difatsOf S img (h .difat) (difatCount S (fatCount S n)) in
-    let fats = fatsOf S img (h .list) difats (fatCount S n) in
-    record { fat = fatOf S img fats n; fats = fats; difats = difats; frees = []; marks = [] }
+-- the FAT as the bytes have it, and with its listed sectors marked
+unfoldable pub rawFat : ℕ → List ℕ → Header → ℕ → List ℕ
+unfolding fatOf fatsIn
+rawFat S img h n = fatOf S img (fatsIn S img h n) n
+
+unfoldable pub judgedFat : ℕ → List ℕ → Header → ℕ → List ℕ
+unfolding rawFat markedFat difatsIn fatsIn
+judgedFat S img h n = markedFat (rawFat S img h n) (difatsIn S img h n) (fatsIn S img h n)
+
+-- the FAT that an opening leaves
+unfoldable pub openFat : ℕ → List ℕ → Header → ℕ → List ℕ
+unfolding judgedFat forgivenFat
+openFat S img h n = forgivenFat n (judgedFat S img h n)
 
 -- the length of the shortest table
 unfoldable pub shortest : Tables → ℕ
@@ -38,25 +44,31 @@ shortest t = min (length (t .fat)) (min (length (t .fats)) (min (length (t .difa
 
 -- the tables of an image that opens: the FAT with its forgiveness, the lists, the FREE sectors ascending, the marks
 unfoldable pub openTables : ℕ → List ℕ → Header → ℕ → Tables
-unfolding rawTables markedFat forgivenFat freesOf marksOf
+unfolding openFat fatsIn difatsIn freesOf marksOf
 openTables S img h n =
-    let raw = rawTables S img h n in
-    let fat = forgivenFat n (markedFat (raw .fat) (raw .difats) (raw .fats)) in
-    record { fat = fat; fats = raw .fats; difats = raw .difats; frees = freesOf n fat; marks = marksOf n fat }
+    record { fat = openFat S img h n; fats = fatsIn S img h n; difats = difatsIn S img h n; frees = freesOf n (openFat S img h n); marks = marksOf n (openFat S img h n) }
+
+-- document 01, 14: every listed sector has its mark
+unfoldable pub listedMarked : ℕ → List ℕ → Header → ℕ → Bool
+unfolding rawFat difatsIn fatsIn allMarked
+listedMarked S img h n = both (allMarked (rawFat S img h n) (difatsIn S img h n) difatSector) (allMarked (rawFat S img h n) (fatsIn S img h n) fatSector)
+
+-- document 01, 15 to 17: what the first bad sector says, or 0
+unfoldable pub wrongIn : Validation → ℕ → List ℕ → Header → ℕ → ℕ
+unfolding judgedFat firstWrong
+wrongIn m S img h n = firstWrong (isStrict m) n (judgedFat S img h n) 0 n
 
 -- document 01's rows 12 to 18, of an image with header h and n sectors of S bytes
 unfoldable pub tableRows : Validation → ℕ → List ℕ → Header → ℕ → List Row
-unfolding rawTables openTables listsRight tailFree allMarked markedFat firstWrong noneDangles
+unfolding listsRight tailFree fatsIn listedMarked wrongIn noneDangles openFat
 tableRows m S img h n =
-    let raw = rawTables S img h n in
-    let wrong = firstWrong (isStrict m) n (markedFat (raw .fat) (raw .difats) (raw .fats)) 0 n in
     row 12 (not (listsRight S img h n))
-    ∷ row 13 (not (tailFree S img (raw .fats) n))
-    ∷ row 14 (both (isStrict m) (not (both (allMarked (raw .fat) (raw .difats) difatSector) (allMarked (raw .fat) (raw .fats) fatSector))))
-    ∷ row 15 (eqb wrong 15)
-    ∷ row 16 (eqb wrong 16)
-    ∷ row 17 (eqb wrong 17)
-    ∷ row 18 (not (noneDangles n (openTables S img h n .fat)))
+    ∷ row 13 (not (tailFree S img (fatsIn S img h n) n))
+    ∷ row 14 (both (isStrict m) (not (listedMarked S img h n)))
+    ∷ row 15 (eqb (wrongIn m S img h n) 15)
+    ∷ row 16 (eqb (wrongIn m S img h n) 16)
+    ∷ row 17 (eqb (wrongIn m S img h n) 17)
+    ∷ row 18 (not (noneDangles n (openFat S img h n)))
     ∷ []
 
 -- document 01's rows 1 to 11, which touch no table; short is the length of the shortest one

@@ -11,7 +11,7 @@ ghost use Prim.Native.Nat.{_+_, _-_, _*_, _^_, _≤_, _<_};
 ghost use lib.ListN.{length};
 ghost use Rattle.sectors.specs.Sectors.{Holds, perSector};
 ghost use Rattle.alloc.specs.Lists.{ceil as ceilOf, fatCount, difatCount, countsRight, chainRight, fatsRight, difatsOf, fatsOf};
-ghost use Rattle.alloc.specs.Loaded.{Loads, Places};
+ghost use Rattle.alloc.specs.Loaded.{Counted, ListsLoaded, Loads, Places};
 
 // a / b, rounded up.
 pub(crate) fn ceil(a: usize, b: usize) -> usize
@@ -78,4 +78,28 @@ pub(crate) fn load_fats(
         return false;
     }
     different(fats, scratch)
+}
+
+// Loads both lists, and says whether the header and they are right.
+pub(crate) fn load_lists(
+    image: &[u8],
+    s: usize,
+    n: usize,
+    h: Header,
+    fats: &mut [u32],
+    difats: &mut [u32],
+    scratch: &mut [u32],
+) -> bool
+    requires { ⌜ Counted s n (length (now image)) (length (now fats)) (length (now difats)) ⌝ }
+    requires { ⌜ n ≤ length (now scratch) ⌝ }
+    ensures { λ r. ⌜ ListsLoaded s (now (image .entry)) h n r (now (fats .exit)) (now (difats .exit)) ⌝ }
+{
+    if !counts_right(h, fats.len(), difats.len()) {
+        return false;
+    }
+    if !load_difats(image, s, n, h.difat, difats, scratch) {
+        return false;
+    }
+    let list = h.list;
+    load_fats(image, s, n, &list, difats, fats, scratch)
 }

@@ -6,37 +6,27 @@ use Rattle.alloc.specs.Lists.{countsRight}
 use borrow.Author.Needs.{needs}
 use Rattle.alloc.proofs.listed.counts_right.Statement.{statement}
 use Rattle.alloc.proofs.listed.counts_right.Tie as tie
-use Rattle.alloc.proofs.listed.counts_right.Reads as reads
-use Rattle.alloc.proofs.listed.counts_right.Lts as lts
-use Rattle.header.proofs.Header.ids.Reads as ids-reads
 
--- src/listed.rt:29:8
 cast-if1 : tie.Need-cast-if1
 cast-if1 c = search needs
 
--- src/listed.rt:30:9
 returns : tie.Need-returns
 unfolding countsRight
 returns c = rw (ne-eqb _ _ (c .if1 .taken))
 
--- src/listed.rt:32:8
 cast-if2 : tie.Need-cast-if2
 cast-if2 c = search needs
 
--- src/listed.rt:33:9
 returns-2 : tie.Need-returns-2
 unfolding countsRight
 returns-2 c = rw (eq-eqb _ _ (c .before .before .if1 .left), ne-eqb _ _ (c .if2 .taken))
 
--- src/listed.rt:35:9
 ids-requires : tie.Need-ids-requires
 ids-requires c κs = search needs
 
--- src/listed.rt:37:9
 returns-3 : tie.Need-returns-3
 returns-3 c = counts-same _ _ _ _ _ (c .before .before .before .before .if1 .left) (c .before .before .if2 .left) (c .before .ids .ensures) (omega arith)
 
--- src/listed.rt:26:1
 returns-4 : tie.Need-returns-4
 returns-4 c = counts-same _ _ _ _ 109 (c .before .before .before .before .if1 .left) (c .before .before .if2 .left) (c .before .ids .ensures) (omega arith)
 

@@ -6,38 +6,27 @@ use Rattle.alloc.proofs.Listing.{below-more, chain-not, chain-below, ch
 use borrow.Author.Needs.{needs}
 use Rattle.alloc.proofs.listed.load_difats.Statement.{statement}
 use Rattle.alloc.proofs.listed.load_difats.Tie as tie
-use Rattle.alloc.proofs.listed.load_difats.Reads as reads
-use Rattle.alloc.proofs.listed.load_difats.Lts as lts
-use Rattle.alloc.proofs.load.list_difats.Reads as list-difats-reads
-use Rattle.alloc.proofs.marks.different.Reads as different-reads
 
--- src/listed.rt:54:9
 list-difats-requires : tie.Need-list-difats-requires
 list-difats-requires c κs = search needs
 
--- src/listed.rt:55:9
 same-length : tie.Need-same-length
 same-length c = search needs
 
--- src/listed.rt:55:9
 returns : tie.Need-returns
 returns c = chain-not _ _ _ _ _ _ _ (c .before .before .before .list-difats .ensures) (not-true _ (c .if1 .taken))
 
--- src/listed.rt:57:5
 different-requires : tie.Need-different-requires
 different-requires c κs = let l = c .before .before .before .before .before in
     let g = l .before .before .before .before .before in
     (below-more _ _ _ (g .pre .1 .1) (chain-below _ _ _ _ _ _ _ (l .list-difats .ensures) (not-false _ (c .before .before .if1 .left))), omega (arith, l .list-difats .kept .1 .1 .1 .1 .0, g .pre .1 .0))
 
--- src/listed.rt:42:1
 same-length-2 : tie.Need-same-length-2
 same-length-2 c = search needs
 
--- src/listed.rt:42:1
 same-length-3 : tie.Need-same-length-3
 same-length-3 c = search needs
 
--- src/listed.rt:42:1
 returns-2 : tie.Need-returns-2
 returns-2 c = let l = c .before .before .before .before .before .before .before .before in
     chain-loads _ _ _ _ _ _ _ _ (l .list-difats .ensures) (not-false _ (c .before .before .before .before .before .if1 .left)) (c .before .before .different .ensures)

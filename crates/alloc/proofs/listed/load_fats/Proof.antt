@@ -8,11 +8,6 @@ use Rattle.alloc.proofs.Listing.{below-more, fats-not, fats-more, fats-
 use borrow.Author.Needs.{needs}
 use Rattle.alloc.proofs.listed.load_fats.Statement.{statement}
 use Rattle.alloc.proofs.listed.load_fats.Tie as tie
-use Rattle.alloc.proofs.listed.load_fats.Reads as reads
-use Rattle.alloc.proofs.listed.load_fats.Lts as lts
-use Rattle.alloc.proofs.load.list_fats.Reads as list-fats-reads
-use Rattle.alloc.proofs.load.rest_free.Reads as rest-free-reads
-use Rattle.alloc.proofs.marks.different.Reads as different-reads
 
 -- whether FREE follows, for as many places as were asked for
 abbrev entry : tie.After-rest-free → tie.Start
@@ -26,31 +21,24 @@ followed c =
     ∙ ap (λ (k : ℕ). restFree (entry c .args .s) (entry c .args .image .now) (entry c .args .list .now) (entry c .args .difats .now) k (length (entry c .args .difats .now)))
     (c .before .before .before .before .list-fats .kept .1 .1 .1 .1 .1 .0))
 
--- src/listed.rt:74:9
 list-fats-requires : tie.Need-list-fats-requires
 list-fats-requires c κs = search needs
 
--- src/listed.rt:75:9
 same-length : tie.Need-same-length
 same-length c = search needs
 
--- src/listed.rt:75:9
 returns : tie.Need-returns
 returns c = fats-not _ _ _ _ _ _ _ _ (c .before .before .before .list-fats .ensures) (not-true _ (c .if1 .taken))
 
--- src/listed.rt:77:9
 rest-free-requires : tie.Need-rest-free-requires
 rest-free-requires c κs = search needs
 
--- src/listed.rt:78:9
 same-length-2 : tie.Need-same-length-2
 same-length-2 c = search needs
 
--- src/listed.rt:78:9
 returns-2 : tie.Need-returns-2
 returns-2 c = fats-more _ _ _ _ _ _ _ (followed (c .before) ∙ not-true _ (c .if2 .taken))
 
--- src/listed.rt:80:5
 different-requires : tie.Need-different-requires
 different-requires c κs =
     let r = c .before .before .before in
@@ -58,15 +46,12 @@ different-requires c κs =
     let g = l .before .before .before .before .before .before .before in
     (below-more _ _ _ (g .pre .1 .1) (fats-below _ _ _ _ _ _ _ _ (l .list-fats .ensures) (not-false _ (r .before .if1 .left))), omega (arith, l .list-fats .kept .1 .1 .1 .1 .1 .0, g .pre .1 .0))
 
--- src/listed.rt:61:1
 same-length-3 : tie.Need-same-length-3
 same-length-3 c = search needs
 
--- src/listed.rt:61:1
 same-length-4 : tie.Need-same-length-4
 same-length-4 c = search needs
 
--- src/listed.rt:61:1
 returns-3 : tie.Need-returns-3
 returns-3 c =
     let r = c .before .before .before .before .before .before in
