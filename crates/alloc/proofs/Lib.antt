@@ -3,3 +3,4 @@ pub mod Judging
 pub mod Listing
 pub mod Loading
 pub mod Marking
+pub mod Opening

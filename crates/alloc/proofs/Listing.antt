@@ -46,9 +46,10 @@ module _ (S : ℕ) (img : List ℕ) (n first d : ℕ) where
       let all : both (allBelow n (difatsOf S img first d)) (ends (difatAt S img first d)) ≡ true = sym (c .right) ∙ e in
       let below : allBelow n (difatsOf S img first d) ≡ true = both-left _ _ all in
       let ended : ends (difatAt S img first d) ≡ true = both-right (allBelow n (difatsOf S img first d)) _ all in
-      record
-      { right = f ∙ ap different (c .listed e) ∙ sym (rw (below, ended) (last (different (difatsOf S img first d))))
-      ; list = λ t. c .listed e }
+      record {
+        right = f ∙ ap different (c .listed e) ∙ sym (rw (below, ended) (last (different (difatsOf S img first d))));
+        list = λ t. c .listed e;
+      }
     where
       last : (b : Bool) → both b true ≡ b
       last true = refl
@@ -134,19 +135,21 @@ module _ (S : ℕ) (img : List ℕ) (h : Header) (n k d : ℕ) (ek : k ≡ fatCo
   lists-load fats difats r q e l t m =
       let here : difats ≡ difatsOf S img (h .difat) d = l .list t in
       let chain : chainRight S img (h .difat) n d ≡ true = sym (l .right) ∙ t in
-      record
-      { right = m .right ∙ ap (λ (x : List ℕ). fatsRight S img n (h .list) x k) here ∙ sym (by-counts ∙ rw (e, chain))
-      ; difats-hold = λ z. here ∙ ap (difatsOf S img (h .difat)) (ed ∙ ap (difatCount S) ek)
-      ; fats-hold = λ z. m .list z ∙ ap (λ (x : List ℕ). fatsOf S img (h .list) x k) here ∙ ap (λ (x : ℕ). fatsOf S img (h .list) (difatsOf S img (h .difat) x) k) (ed ∙ ap (difatCount S) ek) ∙ ap (fatsOf S img (h .list) (difatsOf S img (h .difat) (difatCount S (fatCount S n)))) ek }
+      record {
+        right = m .right ∙ ap (λ (x : List ℕ). fatsRight S img n (h .list) x k) here ∙ sym (by-counts ∙ rw (e, chain));
+        difats-hold = λ z. here ∙ ap (difatsOf S img (h .difat)) (ed ∙ ap (difatCount S) ek);
+        fats-hold = λ z. m .list z ∙ ap (λ (x : List ℕ). fatsOf S img (h .list) x k) here ∙ ap (λ (x : ℕ). fatsOf S img (h .list) (difatsOf S img (h .difat) x) k) (ed ∙ ap (difatCount S) ek) ∙ ap (fatsOf S img (h .list) (difatsOf S img (h .difat) (difatCount S (fatCount S n)))) ek;
+      }
 
 -- the DIFAT sectors that were loaded are below n, and so the places can be read
 pub places-ready : (S : ℕ) (img : List ℕ) (n first len k d : ℕ) (list difats : List ℕ) (r : Bool) → Counted S n len k d → length list ≡ 109 → length difats ≡ d
     → Loads (chainRight S img first n d) (difatsOf S img first d) r difats → r ≡ true → Places S n len list difats k
 unfolding chainRight
 places-ready S img n first len k d list difats r c w e l t =
-    record
-    { holds = c .holds
-    ; whole = w
-    ; below = ap (allBelow n) (l .list t) ∙ both-left _ _ (sym (l .right) ∙ t)
-    ; there = rw e (places-reach S n len k d c)
-    ; small = rw e (places-few S n len k d c) }
+    record {
+      holds = c .holds;
+      whole = w;
+      below = ap (allBelow n) (l .list t) ∙ both-left _ _ (sym (l .right) ∙ t);
+      there = rw e (places-reach S n len k d c);
+      small = rw e (places-few S n len k d c);
+    }

@@ -48,28 +48,24 @@ unfolding openFat fatsIn difatsIn freesOf marksOf
 openTables S img h n =
     record { fat = openFat S img h n; fats = fatsIn S img h n; difats = difatsIn S img h n; frees = freesOf n (openFat S img h n); marks = marksOf n (openFat S img h n) }
 
--- document 01, 14: every listed sector has its mark
-unfoldable pub listedMarked : ℕ → List ℕ → Header → ℕ → Bool
-unfolding rawFat difatsIn fatsIn allMarked
-listedMarked S img h n = both (allMarked (rawFat S img h n) (difatsIn S img h n) difatSector) (allMarked (rawFat S img h n) (fatsIn S img h n) fatSector)
-
--- document 01, 15 to 17: what the first bad sector says, or 0
-unfoldable pub wrongIn : Validation → ℕ → List ℕ → Header → ℕ → ℕ
-unfolding judgedFat firstWrong
-wrongIn m S img h n = firstWrong (isStrict m) n (judgedFat S img h n) 0 n
+-- document 01's rows 14 to 18, of a FAT of n entries as the bytes have it, and its listed sectors
+unfoldable pub fatRows : Bool → ℕ → List ℕ → List ℕ → List ℕ → List Row
+unfolding allMarked markedFat firstWrong forgivenFat noneDangles
+fatRows strict n fat difats fats =
+    row 14 (both strict (not (both (allMarked fat difats difatSector) (allMarked fat fats fatSector))))
+    ∷ row 15 (eqb (firstWrong strict n (markedFat fat difats fats) 0 n) 15)
+    ∷ row 16 (eqb (firstWrong strict n (markedFat fat difats fats) 0 n) 16)
+    ∷ row 17 (eqb (firstWrong strict n (markedFat fat difats fats) 0 n) 17)
+    ∷ row 18 (not (noneDangles n (forgivenFat n (markedFat fat difats fats))))
+    ∷ []
 
 -- document 01's rows 12 to 18, of an image with header h and n sectors of S bytes
-unfoldable pub tableRows : Validation → ℕ → List ℕ → Header → ℕ → List Row
-unfolding listsRight tailFree fatsIn listedMarked wrongIn noneDangles openFat
-tableRows m S img h n =
+unfoldable pub tableRows : Bool → ℕ → List ℕ → Header → ℕ → List Row
+unfolding listsRight tailFree rawFat difatsIn fatsIn fatRows
+tableRows strict S img h n =
     row 12 (not (listsRight S img h n))
     ∷ row 13 (not (tailFree S img (fatsIn S img h n) n))
-    ∷ row 14 (both (isStrict m) (not (listedMarked S img h n)))
-    ∷ row 15 (eqb (wrongIn m S img h n) 15)
-    ∷ row 16 (eqb (wrongIn m S img h n) 16)
-    ∷ row 17 (eqb (wrongIn m S img h n) 17)
-    ∷ row 18 (not (noneDangles n (openFat S img h n)))
-    ∷ []
+    ∷ fatRows strict n (rawFat S img h n) (difatsIn S img h n) (fatsIn S img h n)
 
 -- document 01's rows 1 to 11, which touch no table; short is the length of the shortest one
 unfoldable pub firstRows : Validation → List ℕ → ℕ → ℕ → List Row
@@ -87,7 +83,7 @@ unfoldable pub openRows : Validation → List ℕ → ℕ → ℕ → List Row
 unfolding firstRows tableRows sectorsIn
 openRows m img used short =
     firstRows m img used short
-    ++ tableRows m (lengthOf (headerOf img .version)) img (headerOf img) (sectorsIn (lengthOf (headerOf img .version)) used)
+    ++ tableRows (isStrict m) (lengthOf (headerOf img .version)) img (headerOf img) (sectorsIn (lengthOf (headerOf img .version)) used)
 
 -- the number that an opening ends with
 unfoldable pub openNo : Validation → List ℕ → ℕ → ℕ → ℕ

@@ -3,3 +3,4 @@ mod judge;
 mod listed;
 mod load;
 mod marks;
+mod tables;
