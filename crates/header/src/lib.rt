@@ -10,6 +10,7 @@ use content::put_numbers;
 use content::put_start;
 use content::refused;
 use entries::ids_then_free;
+use entries::leading_ids;
 use entries::put_list;
 use entries::unreadable;
 use fields::signed;
@@ -17,7 +18,7 @@ use judge::counts_dirs;
 use judge::judge;
 use judge::judged_by;
 ghost use mathlib.Core.Path.{_≡_};
-ghost use Rattle.header.specs.Fields.{majorOf, shiftOf, lengthOf, numberedOf, isStrict};
+ghost use Rattle.header.specs.Fields.{majorOf, shiftOf, lengthOf, numberedOf, isStrict, idsIn};
 ghost use Rattle.header.specs.Read.{readNumber, ReadSays};
 ghost use Rattle.header.specs.Write.{writeNumber, WriteSays};
 
@@ -191,6 +192,16 @@ impl Header {
             verdict: ReadVerdict::Accepted,
             header,
         }
+    }
+}
+
+impl Header {
+    // How many sector numbers the list begins with.
+    pub fn ids(self) -> usize
+        ensures { λ r. ⌜ r ≡ idsIn (self .list) ⌝ }
+    {
+        let list = self.list;
+        leading_ids(&list)
     }
 }
 

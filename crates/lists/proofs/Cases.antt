@@ -1,9 +1,10 @@
 -- Cases on numbers and on tests. Assumes nothing.
-use Prim.Native.Nat.{ℕ, zero, suc, _≤_, _<_}
+use Prim.Native.Nat.{ℕ, zero, suc, _+_, _≤_, _<_}
 use mathlib.Core.Path.{_≡_, refl, sym, _∙_, ap}
 use mathlib.Core.Bool.{Bool, true, false, not}
 use mathlib.Core.Logic.{_⊎_, inl, inr, ⊎-elim, _≢_}
 use native.Mathlib.Omega.{arith}
+use native.Mathlib.Numerals.{add-one}
 use native.Mathlib.Decide.{decLt, ℕ-discrete}
 use borrow.Author.Tests.{eq-eqb, ne-eqb}
 use lib.Dec.{eqb}
@@ -86,3 +87,12 @@ alike a b e = rw (eq-eqb a b e)
 
 pub unlike : (a b : ℕ) → (a ≡ b → ⊥) → not (eqb a b) ≡ true
 unlike a b n = rw (ne-eqb a b n)
+
+-- a loop that tests each number in turn and keeps a flag: a turn that holds, and one that fails
+pub every-yes : (f : ℕ → Bool) (j : ℕ) (flag next : Bool) → f j ≡ true → flag ≡ every j f → next ≡ flag → next ≡ every (j + 1) f
+unfolding every
+every-yes f j flag next t e stays = stays ∙ e ∙ sym (rw (add-one j, t))
+
+pub every-no : (f : ℕ → Bool) (j : ℕ) (next : Bool) → f j ≡ false → next ≡ false → next ≡ every (j + 1) f
+unfolding every
+every-no f j next t stops = stops ∙ sym (rw (add-one j, t))

@@ -1,13 +1,13 @@
 -- The laws of `tab`. Assumes nothing.
 use Prim.Native.Nat.{ℕ, zero, suc, _+_, _≤_, _<_}
 use mathlib.Core.Path.{_≡_, refl, _∙_, sym, ap}
-use mathlib.Core.List.{List, [], _∷_, _++_}
+use mathlib.Core.List.{List, [], _∷_, _++_, append-nil}
 use mathlib.Core.Logic.{_⊎_, ⊎-elim, _≢_}
 use native.Mathlib.Omega.{arith}
 use native.Mathlib.Nat.{add-zero, zero-add, add-suc, suc-add, not-suc-le-zero, le-of-suc-le-suc}
 use native.Mathlib.Numerals.{add-one}
 use lib.ListN.{length, getD, set, drop, length-append, length-drop, length-set}
-use lib.Seq.{ext-getD, getD-set-same, getD-set-other, drop-cons, set-at, append-snoc}
+use lib.Seq.{ext-getD, getD-set-same, getD-set-other, drop-cons, drop-length, set-at, append-snoc}
 use Rattle.lists.specs.Lists.{tabFrom, tab}
 use Rattle.lists.proofs.Cases.{same-or}
 
@@ -75,3 +75,7 @@ filled-more f d j v h e =
 
 pub length-filled : (f : ℕ → ℕ) (d : List ℕ) (j : ℕ) → j ≤ length d → length (tab f j ++ drop j d) ≡ length d
 length-filled f d j h = simp (length-append, length-tab, length-drop) (omega arith)
+
+-- the whole list filled
+pub filled-all : (f : ℕ → ℕ) (d now : List ℕ) (j : ℕ) → length d ≡ j → now ≡ tab f j ++ drop j d → now ≡ tab f (length d)
+filled-all f d now j e h = h ∙ rw (← e, drop-length, append-nil)

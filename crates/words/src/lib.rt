@@ -1,4 +1,4 @@
-// Numbers of two and four bytes in a slice, lowest byte first, and three operations on whole
+// Numbers of two and four bytes in a slice, lowest byte first, and four operations on whole
 // slices. The contracts say what a slice then holds by `le`, `digits` and `splice`.
 ghost use mathlib.Core.Path.{_≡_};
 ghost use Prim.Native.Nat.{_+_, _≤_, _<_};
@@ -67,6 +67,17 @@ pub fn copy(src: &[u8], dst: &mut [u8])
 
 // Stores v in every byte of dst.
 pub fn fill(dst: &mut [u8], v: u8)
+    ensures { λ _. ⌜ now (dst .exit) ≡ replicate (length (now (dst .entry))) v ⌝ }
+{
+    let mut i = 0;
+    while i < dst.len() {
+        dst[i] = v;
+        i += 1;
+    }
+}
+
+// Stores v in every number of dst.
+pub fn fill32(dst: &mut [u32], v: u32)
     ensures { λ _. ⌜ now (dst .exit) ≡ replicate (length (now (dst .entry))) v ⌝ }
 {
     let mut i = 0;

@@ -1,0 +1,20 @@
+use mathlib.Core.Path.{_≡_, sym, _∙_, ap}
+use mathlib.Core.Bool.{Bool, not}
+use borrow.Author.Tests.{not-true, not-false}
+use Rattle.lists.proofs.Cases.{both-false-left}
+use Rattle.alloc.proofs.Marking.{both-of-true}
+use borrow.Author.Needs.{needs}
+use Rattle.alloc.proofs.tables.unmarked.Statement.{statement}
+use Rattle.alloc.proofs.tables.unmarked.Tie as tie
+
+returns : tie.Need-returns
+returns c = sym (both-false-left (c .before .before .before .before .args .strict) _ (not-true _ (c .if1 .taken)))
+
+listed-marked-requires : tie.Need-listed-marked-requires
+listed-marked-requires c κs = search needs
+
+returns-2 : tie.Need-returns-2
+returns-2 c = ap not (c .listed-marked .ensures) ∙ sym (both-of-true (c .before .before .before .before .before .args .strict) _ (not-false _ (c .before .if1 .left)))
+
+pub unmarked-spec : {M : Type 1} → statement M
+unmarked-spec = tie.close (tie.spec returns listed-marked-requires returns-2)

@@ -1,0 +1,5 @@
+pub mod Judge
+pub mod Judged
+pub mod Lists
+pub mod Loaded
+pub mod Opening

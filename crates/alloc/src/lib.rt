@@ -1,0 +1,6 @@
+// The allocation tables of a compound file: the opening (document 01, refusals 10 to 18).
+mod judge;
+mod listed;
+mod load;
+mod marks;
+mod tables;
