@@ -1,3 +1,4 @@
+pub mod Early
 pub mod Judge
 pub mod Judged
 pub mod Lists

@@ -1,0 +1,96 @@
+-- The first rows of the opening, 1 to 11, and what is known once they are passed. Assumes nothing.
+use Prim.Native.Nat.{ℕ, _+_, _-_, _*_, _/_, _%_, _≤_, _<_, min}
+use mathlib.Core.Path.{_≡_, refl, sym, _∙_, ap}
+use mathlib.Core.Bool.{Bool, true, false, not}
+use mathlib.Core.List.{List, [], _∷_, _++_}
+use mathlib.Core.Logic.{⊎-elim, _≢_}
+use native.Mathlib.Nat.{div-add-mod', zero-mul}
+use native.Mathlib.Omega.{arith}
+use borrow.Author.Tests.{lt-ltb, le-ltb, eq-eqb, ne-eqb}
+use lib.Dec.{eqb, ltb}
+use lib.ListN.{length}
+use Rattle.lists.specs.Lists.{choose, either}
+use Rattle.lists.specs.Rows.{Row, row, refusal, distinct, fresh}
+use Rattle.lists.proofs.Cases.{same-or, either-right}
+use Rattle.lists.proofs.Rows.{stop, pass, append-given, append-none}
+use Rattle.header.specs.Fields.{lengthOf}
+use Rattle.header.specs.Read.{headerRows, readRows, readNo, headerOf, ReadSays}
+use Rattle.header.specs.declared.Read.{Read}
+use Rattle.header.specs.declared.Version.{Version}
+use Rattle.header.specs.declared.Version.the-variants.{V3, V4}
+use Rattle.header.specs.declared.Validation.{Validation}
+use Rattle.header.specs.declared.Header.{Header}
+use Rattle.alloc.specs.Lists.{most, sectorsIn, roomOf}
+use Rattle.alloc.specs.Opening.{firstRows}
+use Rattle.alloc.specs.Early.{EarlySays}
+use Rattle.alloc.specs.declared.early.Early.{Early}
+
+module _ (m : Validation) (img : List ℕ) (used short : ℕ) where
+  pub early-below : used < 512 → 1 ≡ refusal (firstRows m img used short)
+  unfolding firstRows
+  early-below h = sym (stop 1 _ _ (rw (lt-ltb used 512 h)))
+
+  pub early-above : length img < used → 1 ≡ refusal (firstRows m img used short)
+  unfolding firstRows
+  early-above h = sym (stop 1 _ _ (either-right (ltb used 512) _ (lt-ltb (length img) used h)))
+
+  module _ (low : 512 ≤ used) (high : used ≤ length img) where
+    past-1 : refusal (firstRows m img used short)
+        ≡ refusal (headerRows m img ++ (row 10 (either (not (eqb (used % lengthOf (headerOf img .version)) 0)) (ltb most (sectorsIn (lengthOf (headerOf img .version)) used)))
+        ∷ row 11 (ltb short (roomOf (lengthOf (headerOf img .version)) (length img))) ∷ []))
+    unfolding firstRows
+    past-1 = pass 1 _ _ (rw (le-ltb used 512 low, le-ltb (length img) used high))
+
+    read-is : readNo m img ≡ refusal (headerRows m img)
+    unfolding readNo readRows
+    read-is = pass 1 _ _ (le-ltb (length img) 512 (omega arith))
+
+    pub early-header : (w : ℕ) → w ≡ readNo m img → (w ≡ 0 → ⊥) → w ≡ refusal (firstRows m img used short)
+    early-header w e n = e ∙ read-is ∙ sym (past-1 ∙ append-given (headerRows m img) _ (λ z. n (e ∙ read-is ∙ z)))
+
+    module _ (read : readNo m img ≡ 0) where
+      past-9 : refusal (firstRows m img used short)
+          ≡ refusal (row 10 (either (not (eqb (used % lengthOf (headerOf img .version)) 0)) (ltb most (sectorsIn (lengthOf (headerOf img .version)) used)))
+          ∷ row 11 (ltb short (roomOf (lengthOf (headerOf img .version)) (length img))) ∷ [])
+      unfolding headerRows distinct fresh
+      past-9 = past-1 ∙ append-none (headerRows m img) _ refl (sym read-is ∙ read)
+
+      pub early-odd : (used % lengthOf (headerOf img .version) ≡ 0 → ⊥) → 10 ≡ refusal (firstRows m img used short)
+      early-odd n = sym (past-9 ∙ stop 10 _ _ (rw (ne-eqb _ 0 n)))
+
+      pub early-many : most < sectorsIn (lengthOf (headerOf img .version)) used → 10 ≡ refusal (firstRows m img used short)
+      early-many h = sym (past-9 ∙ stop 10 _ _ (either-right (not (eqb (used % lengthOf (headerOf img .version)) 0)) _ (lt-ltb most _ h)))
+
+      module _ (even : used % lengthOf (headerOf img .version) ≡ 0) (few : sectorsIn (lengthOf (headerOf img .version)) used ≤ most) where
+        past-10 : refusal (firstRows m img used short) ≡ refusal (row 11 (ltb short (roomOf (lengthOf (headerOf img .version)) (length img))) ∷ [])
+        past-10 = past-9 ∙ pass 10 _ _ (rw (eq-eqb _ 0 even, le-ltb most _ few))
+
+        pub early-short : short < roomOf (lengthOf (headerOf img .version)) (length img) → 11 ≡ refusal (firstRows m img used short)
+        early-short h = sym (past-10 ∙ stop 11 _ _ (lt-ltb short _ h))
+
+        pub early-passed : roomOf (lengthOf (headerOf img .version)) (length img) ≤ short → 0 ≡ refusal (firstRows m img used short)
+        unfolding refusal
+        early-passed h = sym (past-10 ∙ pass 11 _ [] (le-ltb short _ h))
+
+-- a refusal, and what stands beside it
+pub early-no : (m : Validation) (img : List ℕ) (used short w : ℕ) (h : Header) (r : Early) → r ≡ record { no = w; len = 0; sectors = 0; header = h } → (w ≡ 0 → ⊥) → w ≡ refusal (firstRows m img used short)
+    → EarlySays img used m short r
+early-no m img used short w h r e n k =
+    let no : r .no ≡ w = ap (λ (x : Early). x .no) e in
+    record { number = no ∙ k; len = λ z. absurd (n (sym no ∙ z)); sectors = λ z. absurd (n (sym no ∙ z)); header = λ z. absurd (n (sym no ∙ z)) }
+
+-- a header that was read is the image's own
+pub read-header : (m : Validation) (img : List ℕ) (r : Read) → ReadSays img m r → readNo m img ≡ 0 → r .header ≡ headerOf img
+read-header m img r s e = s .header ∙ rw (eq-eqb (readNo m img) 0 e)
+
+-- a sector is not empty, and whole sectors that hold something are one at least
+pub length-some : (v : Version) → 512 ≤ lengthOf v
+length-some V3 = omega arith
+length-some V4 = omega arith
+
+pub one-whole : (used s : ℕ) → 1 ≤ used → used % s ≡ 0 → 1 ≤ used / s
+one-whole used s h e =
+    ⊎-elim
+    (λ (z : used / s ≡ 0). absurd (omega (arith, div-add-mod' used s, ap (λ (q : ℕ). q * s) z, zero-mul s)))
+    (λ (n : used / s ≢ 0). omega arith)
+    (same-or (used / s) 0)

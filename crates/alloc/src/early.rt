@@ -1,0 +1,83 @@
+// What is judged before any table is touched (document 01, refusals 1 to 11).
+use header::Header;
+use header::Validation;
+ghost use mathlib.Core.Path.{_≡_};
+ghost use Prim.Native.Nat.{_≤_};
+ghost use lib.ListN.{length};
+ghost use Rattle.alloc.specs.Lists.{roomOf};
+ghost use Rattle.alloc.specs.Early.{EarlySays};
+
+// The most sectors that an image may have.
+pub const MOST: usize = 16384;
+
+// The number of the first cause, or 0 and then the sectors' length, how many they are, and the header.
+pub struct Early {
+    pub no: u32,
+    pub len: usize,
+    pub sectors: usize,
+    pub header: Header,
+}
+
+// The room R of a lent image of so many bytes, by its sectors' length.
+pub(crate) fn room(s: usize, lent: usize) -> usize
+    requires { ⌜ 1 ≤ s ⌝ }
+    ensures { λ r. ⌜ r ≡ roomOf s lent ⌝ }
+{
+    let whole = lent / s;
+    if whole == 0 {
+        return 0;
+    }
+    if whole - 1 < MOST {
+        return whole - 1;
+    }
+    MOST
+}
+
+// A refusal before anything was found out.
+fn stopped(no: u32, header: Header) -> Early
+    ensures { λ r. ⌜ r ≡ record { no = no; len = 0; sectors = 0; header = header } ⌝ }
+{
+    Early {
+        no,
+        len: 0,
+        sectors: 0,
+        header,
+    }
+}
+
+// Judges an image of which so many bytes are used, by the shortest of the lent tables.
+pub(crate) fn judge_early(image: &[u8], used: usize, validation: Validation, short: usize) -> Early
+    ensures { λ r. ⌜ EarlySays (now (image .entry)) used validation short r ⌝ }
+{
+    let read = Header::read_from(image, validation);
+    let h = read.header;
+    if used < consts::HEADER_LEN {
+        return stopped(1, h);
+    }
+    if image.len() < used {
+        return stopped(1, h);
+    }
+    let verdict = read.verdict;
+    let no = verdict.number();
+    if no != 0 {
+        return stopped(no, h);
+    }
+    let version = h.version;
+    let s = version.sector_len();
+    if used % s != 0 {
+        return stopped(10, h);
+    }
+    let n = used / s - 1;
+    if MOST < n {
+        return stopped(10, h);
+    }
+    if short < room(s, image.len()) {
+        return stopped(11, h);
+    }
+    Early {
+        no: 0,
+        len: s,
+        sectors: n,
+        header: h,
+    }
+}
