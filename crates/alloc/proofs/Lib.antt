@@ -1,4 +1,5 @@
 pub mod Examples
+pub mod Filled
 pub mod First
 pub mod Judging
 pub mod Listing

@@ -3,4 +3,5 @@ pub mod Judge
 pub mod Judged
 pub mod Lists
 pub mod Loaded
+pub mod Opened
 pub mod Opening

@@ -4,4 +4,5 @@ mod judge;
 mod listed;
 mod load;
 mod marks;
+mod open;
 mod tables;

@@ -56,17 +56,7 @@ pub(crate) fn content(b: &[u8]) -> Header
 pub(crate) fn refused(verdict: ReadVerdict) -> Read
     ensures { λ r. ⌜ r ≡ record { verdict = verdict; header = none } ⌝ }
 {
-    let header = Header {
-        version: Version::V3,
-        dirs: 0,
-        fats: 0,
-        dir: 0,
-        minifat: 0,
-        minifats: 0,
-        difat: 0,
-        difats: 0,
-        list: [0u32; 109],
-    };
+    let header = Header::none();
     Read { verdict, header }
 }
 

@@ -19,7 +19,7 @@ use judge::judge;
 use judge::judged_by;
 ghost use mathlib.Core.Path.{_≡_};
 ghost use Rattle.header.specs.Fields.{majorOf, shiftOf, lengthOf, numberedOf, isStrict, idsIn};
-ghost use Rattle.header.specs.Read.{readNumber, ReadSays};
+ghost use Rattle.header.specs.Read.{readNumber, none as noHeader, ReadSays};
 ghost use Rattle.header.specs.Write.{writeNumber, WriteSays};
 
 // The format's two versions (MS-CFB 2.2, Major Version).
@@ -196,6 +196,23 @@ impl Header {
 }
 
 impl Header {
+    // The header beside a refusal: version 3, every number 0.
+    pub fn none() -> Header
+        ensures { λ r. ⌜ r ≡ noHeader ⌝ }
+    {
+        Header {
+            version: Version::V3,
+            dirs: 0,
+            fats: 0,
+            dir: 0,
+            minifat: 0,
+            minifats: 0,
+            difat: 0,
+            difats: 0,
+            list: [0u32; 109],
+        }
+    }
+
     // How many sector numbers the list begins with.
     pub fn ids(self) -> usize
         ensures { λ r. ⌜ r ≡ idsIn (self .list) ⌝ }

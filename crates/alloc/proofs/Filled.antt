@@ -1,0 +1,76 @@
+-- Lent tables that were zero hold what was loaded into their fronts, and zeros after it. Assumes nothing.
+use Prim.Native.Nat.{ℕ, _+_, _-_, _≤_, _<_}
+use mathlib.Core.Path.{_≡_, refl, sym, _∙_, ap}
+use mathlib.Core.Bool.{Bool}
+use mathlib.Core.List.{List, _++_}
+use native.Mathlib.Omega.{arith}
+use lib.ListN.{length, getD, take, drop, replicate, length-take, length-drop, length-replicate, getD-replicate}
+use lib.Seq.{ext-getD, getD-take, getD-drop, length-take-le}
+use Rattle.lists.proofs.Tab.{length-tab}
+use Rattle.header.specs.declared.Header.{Header}
+use Rattle.alloc.specs.Lists.{fatCount, difatCount, difatsOf, fatsOf, difatsIn, fatsIn}
+use Rattle.alloc.specs.Judge.{forgivenFat, marksOf}
+use Rattle.alloc.specs.Loaded.{Counted}
+use Rattle.alloc.specs.Judged.{TablesLoaded}
+use Rattle.alloc.specs.Opening.{openFat}
+use Rattle.alloc.specs.Opened.{padded, Zeroed, TablesFilled}
+
+-- the front and the rest of a list of zeros
+pub zero-front : (xs : List ℕ) (n : ℕ) → xs ≡ replicate (length xs) 0 → n ≤ length xs → take n xs ≡ replicate n 0
+zero-front xs n e h =
+    let l : length (take n xs) ≡ n = length-take-le n xs h in
+    ext-getD 0 (take n xs) (replicate n 0) (l ∙ sym (length-replicate {A = ℕ} n 0))
+    (λ i hi.
+    let low : i < n = omega arith in
+    getD-take n xs i 0 low ∙ ap (λ (ys : List ℕ). getD ys i 0) e ∙ getD-replicate (length xs) i 0 0 (omega arith) ∙ sym (getD-replicate n i 0 0 low))
+
+pub zero-rest : (xs : List ℕ) (n : ℕ) → xs ≡ replicate (length xs) 0 → drop n xs ≡ replicate (length xs - n) 0
+zero-rest xs n e =
+    let l : length (drop n xs) ≡ length xs - n = length-drop n xs in
+    ext-getD 0 (drop n xs) (replicate (length xs - n) 0) (l ∙ sym (length-replicate {A = ℕ} (length xs - n) 0))
+    (λ i hi.
+    let low : i < length xs - n = omega arith in
+    getD-drop n xs i 0 ∙ ap (λ (ys : List ℕ). getD ys (n + i) 0) e ∙ getD-replicate (length xs) (n + i) 0 0 (omega arith) ∙ sym (getD-replicate (length xs - n) i 0 0 low))
+
+-- what was put over the front, and zeros after it
+pub put-front : (xs ys front : List ℕ) (n : ℕ) → xs ≡ replicate (length xs) 0 → front ≡ ys → length ys ≡ n → front ++ drop n xs ≡ padded ys (length xs)
+unfolding padded
+put-front xs ys front n e f l = rw (f, zero-rest xs n e, l)
+
+-- the lengths of what is loaded
+length-openFat : (S : ℕ) (img : List ℕ) (h : Header) (n : ℕ) → length (openFat S img h n) ≡ n
+unfolding openFat forgivenFat
+length-openFat S img h n = length-tab _ n
+
+length-marks : (n : ℕ) (fat : List ℕ) → length (marksOf n fat) ≡ n
+unfolding marksOf
+length-marks n fat = length-tab _ n
+
+length-fats : (S : ℕ) (img : List ℕ) (h : Header) (n : ℕ) → length (fatsIn S img h n) ≡ fatCount S n
+unfolding fatsIn fatsOf
+length-fats S img h n = length-tab _ (fatCount S n)
+
+length-difats : (S : ℕ) (img : List ℕ) (h : Header) (n : ℕ) → length (difatsIn S img h n) ≡ difatCount S (fatCount S n)
+unfolding difatsIn difatsOf
+length-difats S img h n = length-tab _ (difatCount S (fatCount S n))
+
+-- the counts of zeroed tables
+pub zeroed-counted : (S n len : ℕ) (fat fats difats : List ℕ) (scratch : ℕ) (marks : List ℕ) (k d : ℕ) → Zeroed S n len fat fats difats scratch marks → k ≡ fatCount S n → d ≡ difatCount S k → Counted S n len k d
+zeroed-counted S n len fat fats difats scratch marks k d z ek ed = record { holds = z .holds; short = z .short; few = z .few; fats = ek; difats = ed }
+
+-- the tables, loaded into their fronts
+pub filled : (strict : Bool) (S : ℕ) (img : List ℕ) (h : Header) (n n' k d r len scratch : ℕ) (fat fats difats marks fat' fats' difats' marks' : List ℕ)
+    → Zeroed S n len fat fats difats scratch marks → n' ≡ n → k ≡ fatCount S n → d ≡ difatCount S k → TablesLoaded strict S img h n' r fat' fats' difats' marks'
+    → TablesFilled strict S img h n (length fat) (length fats) (length difats) (length marks) r (fat' ++ drop n fat) (fats' ++ drop k fats) (difats' ++ drop d difats) (marks' ++ drop n marks)
+filled strict S img h n n' k d r len scratch fat fats difats marks fat' fats' difats' marks' z e ek ed t =
+    let l : TablesLoaded strict S img h n r fat' fats' difats' marks' = rw e at t in
+    record
+    { number = l .number
+    ; fat-holds = λ q. put-front fat _ fat' n (z .fat-zero) (l .fat-holds q) (length-openFat S img h n)
+    ; fats-hold = λ q. put-front fats _ fats' k (z .fats-zero) (l .fats-hold q) (length-fats S img h n ∙ sym ek)
+    ; difats-hold = λ q. put-front difats _ difats' d (z .difats-zero) (l .difats-hold q) (length-difats S img h n ∙ sym (ed ∙ ap (difatCount S) ek))
+    ; marks-hold = λ q. put-front marks _ marks' n (z .marks-zero) (l .marks-hold q) (length-marks n (openFat S img h n)) }
+
+-- counts stay right when their numbers are had as lengths
+pub counted-same : (S n len k d n' k' d' : ℕ) → n' ≡ n → k' ≡ k → d' ≡ d → Counted S n len k d → Counted S n' len k' d'
+counted-same S n len k d n' k' d' en ek ed c = rw (en, ek, ed) c

@@ -1,0 +1,39 @@
+-- What an opening leaves in the lent tables. Assumes nothing.
+use Prim.Native.Nat.{ℕ, _-_, _≤_}
+use mathlib.Core.Path.{_≡_}
+use mathlib.Core.Bool.{Bool}
+use mathlib.Core.List.{List, _++_}
+use lib.ListN.{length, replicate}
+use Rattle.lists.specs.Rows.{refusal}
+use Rattle.sectors.specs.Sectors.{Holds}
+use Rattle.header.specs.declared.Header.{Header}
+use Rattle.alloc.specs.Lists.{most, difatsIn, fatsIn}
+use Rattle.alloc.specs.Judge.{marksOf}
+use Rattle.alloc.specs.Opening.{tableRows, openFat}
+
+-- a list, and zeros after it up to a length
+unfoldable pub padded : List ℕ → ℕ → List ℕ
+padded xs m = xs ++ replicate (m - length xs) 0
+
+-- lent tables that are zero and long enough for n sectors of S bytes
+pub record Zeroed (S n len : ℕ) (fat fats difats : List ℕ) (scratch : ℕ) (marks : List ℕ) : Type 0 where
+  pub holds : Holds S n len
+  pub short : S ≤ 65536
+  pub few : n ≤ most
+  pub fat-zero : fat ≡ replicate (length fat) 0
+  pub fats-zero : fats ≡ replicate (length fats) 0
+  pub difats-zero : difats ≡ replicate (length difats) 0
+  pub marks-zero : marks ≡ replicate (length marks) 0
+  pub fat-long : n ≤ length fat
+  pub fats-long : n ≤ length fats
+  pub difats-long : n ≤ length difats
+  pub scratch-long : n ≤ scratch
+  pub marks-long : n ≤ length marks
+
+-- the tables are loaded into their fronts: the number, and, where it is 0, what they hold
+pub record TablesFilled (strict : Bool) (S : ℕ) (img : List ℕ) (h : Header) (n a b c e r : ℕ) (fat fats difats marks : List ℕ) : Type 0 where
+  pub number : r ≡ refusal (tableRows strict S img h n)
+  pub fat-holds : r ≡ 0 → fat ≡ padded (openFat S img h n) a
+  pub fats-hold : r ≡ 0 → fats ≡ padded (fatsIn S img h n) b
+  pub difats-hold : r ≡ 0 → difats ≡ padded (difatsIn S img h n) c
+  pub marks-hold : r ≡ 0 → marks ≡ padded (marksOf n (openFat S img h n)) e

@@ -1,0 +1,60 @@
+// The opening of an image (document 01, "Opening an image").
+use crate::early::judge_early;
+use crate::judge::list_free;
+use crate::listed::ceil;
+use crate::load::past_header;
+use crate::tables::load_tables;
+use header::Header;
+use header::Validation;
+ghost use mathlib.Core.Path.{_≡_};
+ghost use Prim.Native.Nat.{_≤_};
+ghost use lib.ListN.{length, replicate};
+ghost use Rattle.alloc.specs.Opened.{Zeroed, TablesFilled};
+
+// Makes every lent table zero.
+pub(crate) fn clear(
+    fat: &mut [u32],
+    fats: &mut [u32],
+    difats: &mut [u32],
+    frees: &mut [u32],
+    marks: &mut [u8],
+)
+    ensures { λ _. ⌜ (now (fat .exit) ≡ replicate (length (now (fat .entry))) 0) × (now (fats .exit) ≡ replicate (length (now (fats .entry))) 0) × (now (difats .exit) ≡ replicate (length (now (difats .entry))) 0) × (now (frees .exit) ≡ replicate (length (now (frees .entry))) 0) × (now (marks .exit) ≡ replicate (length (now (marks .entry))) 0) ⌝ }
+{
+    words::fill32(fat, 0);
+    words::fill32(fats, 0);
+    words::fill32(difats, 0);
+    words::fill32(frees, 0);
+    words::fill(marks, 0);
+}
+
+// Loads the tables of n sectors into the fronts of lent tables that are zero: 0, or 12 to 18.
+pub(crate) fn fill_tables(
+    image: &[u8],
+    s: usize,
+    n: usize,
+    h: Header,
+    strict: bool,
+    fat: &mut [u32],
+    fats: &mut [u32],
+    difats: &mut [u32],
+    scratch: &mut [u32],
+    marks: &mut [u8],
+) -> u32
+    requires { ⌜ Zeroed s n (length (now image)) (now fat) (now fats) (now difats) (length (now scratch)) (now marks) ⌝ }
+    ensures { λ r. ⌜ TablesFilled strict s (now (image .entry)) h n (length (now (fat .entry))) (length (now (fats .entry))) (length (now (difats .entry))) (length (now (marks .entry))) r (now (fat .exit)) (now (fats .exit)) (now (difats .exit)) (now (marks .exit)) ⌝ }
+{
+    let k = ceil(n, s / 4);
+    let d = ceil(past_header(k), s / 4 - 1);
+    load_tables(
+        image,
+        s,
+        h,
+        strict,
+        &mut fat[..n],
+        &mut fats[..k],
+        &mut difats[..d],
+        scratch,
+        &mut marks[..n],
+    )
+}
