@@ -5,13 +5,13 @@ use mathlib.Core.Bool.{Bool}
 use mathlib.Core.List.{List, _++_}
 use native.Mathlib.Omega.{arith}
 use lib.ListN.{length, getD, take, drop, replicate, length-take, length-drop, length-replicate, getD-replicate}
-use lib.Seq.{ext-getD, getD-take, getD-drop, length-take-le}
+use lib.Seq.{ext-getD, getD-take, getD-drop, length-take-le, take-at}
 use Rattle.lists.proofs.Tab.{length-tab}
 use Rattle.header.specs.declared.Header.{Header}
 use Rattle.alloc.specs.Lists.{fatCount, difatCount, difatsOf, fatsOf, difatsIn, fatsIn}
-use Rattle.alloc.specs.Judge.{forgivenFat, marksOf}
+use Rattle.alloc.specs.Judge.{forgivenFat, marksOf, freesOf}
 use Rattle.alloc.specs.Loaded.{Counted}
-use Rattle.alloc.specs.Judged.{TablesLoaded}
+use Rattle.alloc.specs.Judged.{TablesLoaded, Listed}
 use Rattle.alloc.specs.Opening.{openFat}
 use Rattle.alloc.specs.Opened.{padded, Zeroed, TablesFilled}
 
@@ -74,3 +74,23 @@ filled strict S img h n n' k d r len scratch fat fats difats marks fat' fats' di
 -- counts stay right when their numbers are had as lengths
 pub counted-same : (S n len k d n' k' d' : ℕ) → n' ≡ n → k' ≡ k → d' ≡ d → Counted S n len k d → Counted S n' len k' d'
 counted-same S n len k d n' k' d' en ek ed c = rw (en, ek, ed) c
+
+-- the front of a padded list is the list
+pub front-padded : (xs now : List ℕ) (n m : ℕ) → now ≡ padded xs m → length xs ≡ n → take n now ≡ xs
+unfolding padded
+front-padded xs now n m e l = ap (take n) e ∙ take-at xs _ n l
+
+-- the free list, put into a list of zeros
+pub free-listed : (S : ℕ) (img : List ℕ) (h : Header) (n a e r : ℕ) (fat zeros frees : List ℕ) → fat ≡ padded (openFat S img h n) a → zeros ≡ replicate e 0 → Listed (take n fat) zeros r frees
+    → (r ≡ length (freesOf n (openFat S img h n))) × (frees ≡ padded (freesOf n (openFat S img h n)) e)
+unfolding padded
+free-listed S img h n a e r fat zeros frees ef ez l =
+    let front : take n fat ≡ openFat S img h n = front-padded (openFat S img h n) fat n a ef (length-openFat S img h n) in
+    let count : length (take n fat) ≡ n = ap length front ∙ length-openFat S img h n in
+    let list : freesOf (length (take n fat)) (take n fat) ≡ freesOf n (openFat S img h n) = ap (λ (k : ℕ). freesOf k (take n fat)) count ∙ ap (freesOf n) front in
+    let number : r ≡ length (freesOf n (openFat S img h n)) = l .number ∙ ap length list in
+    let zl : length zeros ≡ e = ap length ez ∙ length-replicate {A = ℕ} e 0 in
+    (number,
+    l .list ∙ ap (λ (x : List ℕ). x ++ drop r zeros) list
+    ∙ ap (λ (x : List ℕ). freesOf n (openFat S img h n) ++ x)
+    (zero-rest zeros r (ez ∙ ap (λ (k : ℕ). replicate k 0) (sym zl)) ∙ ap (λ (k : ℕ). replicate (k - r) 0) zl ∙ ap (λ (k : ℕ). replicate (e - k) 0) number))

@@ -8,8 +8,9 @@ use Rattle.lists.specs.Rows.{refusal}
 use Rattle.sectors.specs.Sectors.{Holds}
 use Rattle.header.specs.declared.Header.{Header}
 use Rattle.alloc.specs.Lists.{most, difatsIn, fatsIn}
-use Rattle.alloc.specs.Judge.{marksOf}
+use Rattle.alloc.specs.Judge.{freesOf, marksOf}
 use Rattle.alloc.specs.Opening.{tableRows, openFat}
+use Rattle.alloc.specs.declared.open.Filled.{Filled}
 
 -- a list, and zeros after it up to a length
 unfoldable pub padded : List ℕ → ℕ → List ℕ
@@ -37,3 +38,13 @@ pub record TablesFilled (strict : Bool) (S : ℕ) (img : List ℕ) (h : Header) 
   pub fats-hold : r ≡ 0 → fats ≡ padded (fatsIn S img h n) b
   pub difats-hold : r ≡ 0 → difats ≡ padded (difatsIn S img h n) c
   pub marks-hold : r ≡ 0 → marks ≡ padded (marksOf n (openFat S img h n)) e
+
+-- every table is loaded: the number, and, where it is 0, how many sectors are FREE and what the tables hold
+pub record AllFilled (strict : Bool) (S : ℕ) (img : List ℕ) (h : Header) (n a b c e g : ℕ) (r : Filled) (fat fats difats frees marks : List ℕ) : Type 0 where
+  pub number : r .no ≡ refusal (tableRows strict S img h n)
+  pub free : r .no ≡ 0 → r .free ≡ length (freesOf n (openFat S img h n))
+  pub fat-holds : r .no ≡ 0 → fat ≡ padded (openFat S img h n) a
+  pub fats-hold : r .no ≡ 0 → fats ≡ padded (fatsIn S img h n) b
+  pub difats-hold : r .no ≡ 0 → difats ≡ padded (difatsIn S img h n) c
+  pub frees-hold : r .no ≡ 0 → frees ≡ padded (freesOf n (openFat S img h n)) e
+  pub marks-hold : r .no ≡ 0 → marks ≡ padded (marksOf n (openFat S img h n)) g

@@ -9,7 +9,7 @@ use header::Validation;
 ghost use mathlib.Core.Path.{_≡_};
 ghost use Prim.Native.Nat.{_≤_};
 ghost use lib.ListN.{length, replicate};
-ghost use Rattle.alloc.specs.Opened.{Zeroed, TablesFilled};
+ghost use Rattle.alloc.specs.Opened.{AllFilled, Zeroed, TablesFilled};
 
 // Makes every lent table zero.
 pub(crate) fn clear(
@@ -57,4 +57,35 @@ pub(crate) fn fill_tables(
         scratch,
         &mut marks[..n],
     )
+}
+
+// The number of a loading, and how many sectors are FREE.
+pub struct Filled {
+    pub no: u32,
+    pub free: usize,
+}
+
+// Loads every table of n sectors into lent ones that are zero: 0, or 12 to 18 and then the tables hold rubbish.
+pub(crate) fn load_zeroed(
+    image: &[u8],
+    s: usize,
+    n: usize,
+    h: Header,
+    strict: bool,
+    fat: &mut [u32],
+    fats: &mut [u32],
+    difats: &mut [u32],
+    frees: &mut [u32],
+    marks: &mut [u8],
+) -> Filled
+    requires { ⌜ Zeroed s n (length (now image)) (now fat) (now fats) (now difats) (length (now frees)) (now marks) ⌝ }
+    ensures { λ r. ⌜ AllFilled strict s (now (image .entry)) h n (length (now (fat .entry))) (length (now (fats .entry))) (length (now (difats .entry))) (length (now (frees .entry))) (length (now (marks .entry))) r (now (fat .exit)) (now (fats .exit)) (now (difats .exit)) (now (frees .exit)) (now (marks .exit)) ⌝ }
+{
+    let no = fill_tables(image, s, n, h, strict, fat, fats, difats, frees, marks);
+    if no != 0 {
+        return Filled { no, free: 0 };
+    }
+    words::fill32(frees, 0);
+    let free = list_free(&fat[..n], frees);
+    Filled { no: 0, free }
 }
