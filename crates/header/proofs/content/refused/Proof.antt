@@ -1,3 +1,4 @@
+-- The header beside a refusal is the definition's, by computing.
 use mathlib.Core.Path.{refl}
 use Rattle.header.specs.Read.{none}
 use Rattle.header.proofs.content.refused.Statement.{statement}
