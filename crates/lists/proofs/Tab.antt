@@ -1,16 +1,16 @@
 -- The laws of `tab`. Assumes nothing.
-use Prim.Native.Nat.{ℕ, zero, suc, _+_, _≤_, _<_, _-_}
+use Prim.Native.Nat.{ℕ, zero, suc, _+_, _-_, _≤_, _<_}
 use mathlib.Core.Path.{_≡_, refl, _∙_, sym, ap}
 use mathlib.Core.List.{List, [], _∷_, _++_, append-nil, append-assoc}
-use mathlib.Core.Logic.{⊎-elim, _≢_, _⊎_, inl, inr}
+use mathlib.Core.Logic.{_⊎_, inl, inr, ⊎-elim, _≢_}
 use native.Mathlib.Omega.{arith}
 use native.Mathlib.Nat.{add-zero, zero-add, add-suc, suc-add, not-suc-le-zero, le-of-suc-le-suc}
 use native.Mathlib.Numerals.{add-one}
 use borrow.Rule.Slice.PartMut.{putMid}
-use lib.ListN.{length, getD, set, drop, length-append, length-drop, length-set, take, length-take, List·getD-append}
+use lib.ListN.{length, getD, set, take, drop, length-append, length-take, length-drop, length-set, List·getD-append}
 use lib.Seq.{ext-getD, getD-set-same, getD-set-other, drop-cons, drop-length, set-at, append-snoc, getD-append-add, drop-drop, take-at, drop-at}
 use Rattle.lists.specs.Lists.{tabFrom, tab}
-use Rattle.lists.proofs.Cases.{same-or, below-or}
+use Rattle.lists.proofs.Cases.{below-or, same-or}
 
 length-tabFrom : (f : ℕ → ℕ) (k n : ℕ) → length (tabFrom f k n) ≡ n
 unfolding tabFrom
