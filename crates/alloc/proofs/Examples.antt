@@ -1,9 +1,9 @@
 -- Document 01's image Q, opened by the definitions. Assumes nothing.
-use Prim.Native.Nat.{ℕ, _+_, _-_, _*_}
+use Prim.Native.Nat.{ℕ, _-_}
 use mathlib.Core.Path.{_≡_, refl}
 use mathlib.Core.List.{List, [], _∷_, _++_}
 use lib.ListN.{length, replicate}
-use Rattle.lists.specs.Lists.{every, tab, splice, part, sameList}
+use Rattle.lists.specs.Lists.{every, tab, part, sameList}
 use Rattle.lists.specs.Rows.{refusal}
 use Rattle.words.specs.Words.{le, digits}
 use Rattle.consts.specs.Consts.{endOfChain, fatSector, freeSector}
@@ -11,9 +11,9 @@ use Rattle.header.specs.Fields.{numberAt, listOf, idsThenFree, versionOf}
 use Rattle.header.specs.Read.{headerOf, unknown, countsDirs, endIfFree}
 use Rattle.header.specs.Write.{headerBytes, listBytes}
 use Rattle.header.specs.declared.Version.the-variants.{V3}
-use Rattle.header.specs.declared.Validation.the-variants.{Strict, Permissive}
+use Rattle.header.specs.declared.Validation.the-variants.{Strict}
 use Rattle.header.specs.declared.Header.{Header}
-use Rattle.alloc.specs.Opening.{Tables, openNo, openTables}
+use Rattle.alloc.specs.Opening.{openNo}
 
 -- version 3, one FAT sector at 0
 headerQ : Header

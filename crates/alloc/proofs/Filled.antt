@@ -64,12 +64,13 @@ pub filled : (strict : Bool) (S : ℕ) (img : List ℕ) (h : Header) (n n' k d r
     → TablesFilled strict S img h n (length fat) (length fats) (length difats) (length marks) r (fat' ++ drop n fat) (fats' ++ drop k fats) (difats' ++ drop d difats) (marks' ++ drop n marks)
 filled strict S img h n n' k d r len scratch fat fats difats marks fat' fats' difats' marks' z e ek ed t =
     let l : TablesLoaded strict S img h n r fat' fats' difats' marks' = rw e at t in
-    record
-    { number = l .number
-    ; fat-holds = λ q. put-front fat _ fat' n (z .fat-zero) (l .fat-holds q) (length-openFat S img h n)
-    ; fats-hold = λ q. put-front fats _ fats' k (z .fats-zero) (l .fats-hold q) (length-fats S img h n ∙ sym ek)
-    ; difats-hold = λ q. put-front difats _ difats' d (z .difats-zero) (l .difats-hold q) (length-difats S img h n ∙ sym (ed ∙ ap (difatCount S) ek))
-    ; marks-hold = λ q. put-front marks _ marks' n (z .marks-zero) (l .marks-hold q) (length-marks n (openFat S img h n)) }
+    record {
+      number = l .number;
+      fat-holds = λ q. put-front fat _ fat' n (z .fat-zero) (l .fat-holds q) (length-openFat S img h n);
+      fats-hold = λ q. put-front fats _ fats' k (z .fats-zero) (l .fats-hold q) (length-fats S img h n ∙ sym ek);
+      difats-hold = λ q. put-front difats _ difats' d (z .difats-zero) (l .difats-hold q) (length-difats S img h n ∙ sym (ed ∙ ap (difatCount S) ek));
+      marks-hold = λ q. put-front marks _ marks' n (z .marks-zero) (l .marks-hold q) (length-marks n (openFat S img h n));
+    }
 
 -- counts stay right when their numbers are had as lengths
 pub counted-same : (S n len k d n' k' d' : ℕ) → n' ≡ n → k' ≡ k → d' ≡ d → Counted S n len k d → Counted S n' len k' d'
@@ -89,8 +90,9 @@ free-listed S img h n a e r fat zeros frees ef ez l =
     let count : length (take n fat) ≡ n = ap length front ∙ length-openFat S img h n in
     let list : freesOf (length (take n fat)) (take n fat) ≡ freesOf n (openFat S img h n) = ap (λ (k : ℕ). freesOf k (take n fat)) count ∙ ap (freesOf n) front in
     let number : r ≡ length (freesOf n (openFat S img h n)) = l .number ∙ ap length list in
-    let zl : length zeros ≡ e = ap length ez ∙ length-replicate {A = ℕ} e 0 in
-    (number,
-    l .list ∙ ap (λ (x : List ℕ). x ++ drop r zeros) list
-    ∙ ap (λ (x : List ℕ). freesOf n (openFat S img h n) ++ x)
-    (zero-rest zeros r (ez ∙ ap (λ (k : ℕ). replicate k 0) (sym zl)) ∙ ap (λ (k : ℕ). replicate (k - r) 0) zl ∙ ap (λ (k : ℕ). replicate (e - k) 0) number))
+    let zl : length zeros ≡ e = ap length ez ∙ length-replicate {A = ℕ} e 0 in (
+      number,
+      l .list ∙ ap (λ (x : List ℕ). x ++ drop r zeros) list
+          ∙ ap (λ (x : List ℕ). freesOf n (openFat S img h n) ++ x)
+          (zero-rest zeros r (ez ∙ ap (λ (k : ℕ). replicate k 0) (sym zl)) ∙ ap (λ (k : ℕ). replicate (k - r) 0) zl ∙ ap (λ (k : ℕ). replicate (e - k) 0) number),
+    )

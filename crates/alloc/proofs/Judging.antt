@@ -12,7 +12,7 @@ use lib.Dec.{eqb, leb, ltb}
 use lib.ListN.{length, getD, set, drop, replicate, length-append, length-set, getD-replicate, length-replicate}
 use lib.Seq.{getD-set-same, getD-set-other, set-getD, drop-cons, set-at, append-snoc}
 use Rattle.lists.specs.Lists.{choose, both, either, every}
-use Rattle.lists.proofs.Cases.{below-or, same-or, not-both, both-true, both-false-left, both-false-right, either-cases, either-right}
+use Rattle.lists.proofs.Cases.{below-or, same-or, not-both, both-true, both-false-left, both-false-right, either-cases, either-right, every-ext}
 use Rattle.lists.proofs.Tab.{length-tab, getD-tab, is-tab}
 use Rattle.consts.specs.Consts.{maxRegular, invalidSector, endOfChain, freeSector}
 use Rattle.alloc.specs.Judge.{regular, forgiven, pointed, wrongAt, firstWrong, forgivenFat, marksOf, freesFrom, freesOf}
@@ -97,11 +97,6 @@ forgiven-points n e t small h =
     (λ (r : e ≤ maxRegular). rw (forgiven-high n e r g) (ne-eqb endOfChain t (omega arith) ∙ sym (ne-eqb e t (omega arith))))
     (below-or maxRegular e))
     (below-or e n)
-
-every-ext : (n : ℕ) (f g : ℕ → Bool) → ((j : ℕ) → j < n → f j ≡ g j) → every n f ≡ every n g
-unfolding every
-every-ext zero f g h = refl
-every-ext (suc n) f g h = ap (λ (b : Bool). both b (every n f)) (h n (omega arith)) ∙ ap (both (g n)) (every-ext n f g (λ j l. h j (omega arith)))
 
 pub forgiven-pointed : (n : ℕ) (fat : List ℕ) (t : ℕ) → n ≤ maxRegular → t < n → pointed (forgivenFat n fat) n t ≡ pointed fat n t
 unfolding pointed forgivenFat

@@ -8,14 +8,14 @@ use native.Mathlib.Nat.{div-mul-le-self, lt-div-mul-add, mul-le-mul-right, add-m
 use native.Mathlib.Omega.{arith}
 use borrow.Author.Tests.{eq-eqb}
 use lib.Dec.{eqb}
-use lib.ListN.{length, getD}
+use lib.ListN.{length}
 use Rattle.lists.specs.Lists.{both}
 use Rattle.lists.proofs.Cases.{below-or, both-left, both-right, both-false-left, both-false-right, not-both}
 use Rattle.header.specs.Fields.{idsIn}
 use Rattle.header.specs.declared.Header.{Header}
-use Rattle.alloc.specs.Lists.{ceil, most, fatCount, difatCount, countsRight, difatAt, difatsOf, fatsOf, allBelow, different, ends, chainRight, restFree, idsRight, fatsRight, difatsIn, fatsIn, listsRight}
+use Rattle.alloc.specs.Lists.{ceil, fatCount, difatCount, countsRight, difatAt, difatsOf, fatsOf, allBelow, different, ends, chainRight, restFree, idsRight, fatsRight, difatsIn, fatsIn, listsRight}
 use Rattle.alloc.specs.Loaded.{ChainListed, Places, PlacesListed, Loads, ListsLoaded, Counted}
-use Rattle.sectors.specs.Sectors.{perSector, Holds}
+use Rattle.sectors.specs.Sectors.{perSector}
 use Rattle.sectors.proofs.Laws.{scaled}
 use Rattle.alloc.proofs.Marking.{below-at, below-of}
 
@@ -138,7 +138,10 @@ module _ (S : ℕ) (img : List ℕ) (h : Header) (n k d : ℕ) (ek : k ≡ fatCo
       record {
         right = m .right ∙ ap (λ (x : List ℕ). fatsRight S img n (h .list) x k) here ∙ sym (by-counts ∙ rw (e, chain));
         difats-hold = λ z. here ∙ ap (difatsOf S img (h .difat)) (ed ∙ ap (difatCount S) ek);
-        fats-hold = λ z. m .list z ∙ ap (λ (x : List ℕ). fatsOf S img (h .list) x k) here ∙ ap (λ (x : ℕ). fatsOf S img (h .list) (difatsOf S img (h .difat) x) k) (ed ∙ ap (difatCount S) ek) ∙ ap (fatsOf S img (h .list) (difatsOf S img (h .difat) (difatCount S (fatCount S n)))) ek;
+        fats-hold = λ z. m .list z
+            ∙ ap (λ (x : List ℕ). fatsOf S img (h .list) x k) here
+            ∙ ap (λ (x : ℕ). fatsOf S img (h .list) (difatsOf S img (h .difat) x) k) (ed ∙ ap (difatCount S) ek)
+            ∙ ap (fatsOf S img (h .list) (difatsOf S img (h .difat) (difatCount S (fatCount S n)))) ek;
       }
 
 -- the DIFAT sectors that were loaded are below n, and so the places can be read

@@ -1,43 +1,23 @@
 -- The laws of the lists and of the FAT that an image's bytes hold. Assumes nothing.
-use Prim.Native.Nat.{ℕ, zero, suc, _+_, _-_, _*_, _/_, _%_, _≤_, _<_, min}
+use Prim.Native.Nat.{ℕ, _+_, _-_, _*_, _/_, _%_, _≤_, _<_, min}
 use mathlib.Core.Path.{_≡_, refl, sym, _∙_, ap}
 use mathlib.Core.Bool.{Bool, true, false}
-use mathlib.Core.List.{List, [], _∷_, _++_, append-assoc}
-use mathlib.Core.Logic.{_⊎_, inl, inr, ⊎-elim}
+use mathlib.Core.List.{List, _++_}
 use native.Mathlib.Omega.{arith}
 use native.Mathlib.Nat.{div-lt-iff-lt-mul, mod-lt, mul-le-mul-right, add-mul, one-mul, zero-mul}
 use native.Mathlib.Numerals.{add-one}
-use borrow.Author.Tests.{lt-ltb, le-ltb, ltb-true}
+use borrow.Author.Tests.{lt-ltb, le-ltb}
 use lib.Dec.{eqb, ltb}
 use borrow.Rule.Slice.PartMut.{putMid}
-use lib.ListN.{length, getD, set, take, drop, length-append, length-take, length-drop, List·getD-append}
-use lib.Seq.{getD-append-add, drop-drop, take-at, drop-at}
-use Rattle.lists.specs.Lists.{choose, both, either, every, tab}
-use Rattle.lists.proofs.Cases.{below-or, both-false-left, both-false-right, not-both, every-at, every-yes}
-use Rattle.lists.proofs.Tab.{length-tab, getD-tab, is-tab, tab-ext, filled-none, filled-more, filled-all, length-filled}
-use Rattle.sectors.specs.Sectors.{sectorOf, perSector, entryIn, entryOf, freeAt, freeFrom, Holds}
+use lib.ListN.{length, getD, set, take, drop}
+use Rattle.lists.specs.Lists.{every, tab}
+use Rattle.lists.proofs.Cases.{both-false-left, not-both, every-yes, every-ext, every-false}
+use Rattle.lists.proofs.Tab.{length-tab, getD-tab, filled-none, filled-more, filled-all, length-filled, filled-run}
+use Rattle.sectors.specs.Sectors.{sectorOf, perSector, entryIn, entryOf, freeAt, freeFrom}
 use Rattle.sectors.proofs.Laws.{entry-in-sector}
 use Rattle.consts.specs.Consts.{freeSector}
 use Rattle.alloc.specs.Lists.{difatAt, difatsOf, placeAt, fatsOf, fatOf, allBelow, ends, tailFree}
 use Rattle.alloc.specs.Loaded.{ChainListed, Places, PlacesListed}
-
--- two tests that agree below n, and one that fails somewhere below n
-pub every-ext : (n : ℕ) (f g : ℕ → Bool) → ((i : ℕ) → i < n → f i ≡ g i) → every n f ≡ every n g
-unfolding every
-every-ext zero f g h = refl
-every-ext (suc n) f g h =
-    let rest : every n f ≡ every n g = every-ext n f g (λ i l. h i (omega arith)) in
-    rw (h n (omega arith), rest)
-
-pub every-false : (n : ℕ) (f : ℕ → Bool) (i : ℕ) → i < n → f i ≡ false → every n f ≡ false
-unfolding every
-every-false zero f i l h = absurd (omega arith)
-every-false (suc n) f i l h =
-    let rest : i < n → every n f ≡ false = λ k. every-false n f i k h in
-    ⊎-elim
-    (λ (k : i < n). both-false-right (f n) (every n f) (rest k))
-    (λ (k : n ≤ i). let e : i ≡ n = omega arith in both-false-left (f n) (every n f) (rw e at h))
-    (below-or i n)
 
 -- a list that is a table of values is below n where the values are
 pub below-tab : (n : ℕ) (f : ℕ → ℕ) (d : ℕ) → allBelow n (tab f d) ≡ every d (λ i. ltb (f i) n)
@@ -108,11 +88,6 @@ pub place-high : (S : ℕ) (img list difats : List ℕ) (p v : ℕ) → 109 ≤ 
 unfolding placeAt
 place-high S img list difats p v h e = e ∙ sym (rw (le-ltb p 109 h))
 
--- an id of a list that is below n
-pub below-at : (n : ℕ) (xs : List ℕ) → allBelow n xs ≡ true → (i : ℕ) → i < length xs → getD xs i 0 < n
-unfolding allBelow
-below-at n xs t i l = ltb-true _ _ (every-at (length xs) (λ j. ltb (getD xs j 0) n) t i l)
-
 -- the DIFAT sector that holds a place, and the slot in it
 pub place-index : (p d e : ℕ) → 1 ≤ e → p < 109 + d * e → 109 ≤ p → (p - 109) / e < d
 place-index p d e pos h l = div-lt-iff-lt-mul {k = e} {x = p - 109} {y = d} pos .1 (omega arith)
@@ -137,47 +112,6 @@ places-end S img n list difats j before now s e =
 pub fewer-places : (S n len : ℕ) (list difats : List ℕ) (k j : ℕ) → Places S n len list difats k → j ≤ 109 + length difats * (perSector S - 1) → Places S n len list difats j
 fewer-places S n len list difats k j p h = record { holds = p .holds; whole = p .whole; below = p .below; there = h; small = p .small }
 
--- a table in two runs
-pub tab-append : (f : ℕ → ℕ) (a c : ℕ) → tab f (a + c) ≡ tab f a ++ tab (λ j. f (a + j)) c
-tab-append f a c =
-    sym (is-tab (tab f a ++ tab (λ j. f (a + j)) c) f (a + c) (length-append (tab f a) _ ∙ omega (arith, length-tab f a, length-tab (λ j. f (a + j)) c))
-    (λ i l. at i l (below-or i a)))
-  where
-    at : (i : ℕ) → i < a + c → (i < a) ⊎ (a ≤ i) → getD (tab f a ++ tab (λ j. f (a + j)) c) i 0 ≡ f i
-    at i l (inl low) = List·getD-append (tab f a) _ 0 i (rw length-tab low) ∙ getD-tab f a i 0 low
-    at i l (inr high) =
-        let p : length (tab f a) + (i - a) ≡ i = omega (arith, length-tab f a) in
-        let q : a + (i - a) ≡ i = omega arith in
-        ap (λ (k : ℕ). getD (tab f a ++ tab (λ j. f (a + j)) c) k 0) (sym p)
-        ∙ getD-append-add (tab f a) (tab (λ j. f (a + j)) c) (i - a) 0
-        ∙ getD-tab (λ j. f (a + j)) c (i - a) 0 (omega arith)
-        ∙ ap f q
-
--- a loop that fills a list run by run: a run from a to b that was lent as a part and came back
-pub filled-run : (f g : ℕ → ℕ) (d now run : List ℕ) (a b : ℕ) → a ≤ b → b ≤ length d → now ≡ tab f a ++ drop a d
-    → run ≡ tab g (length (take (b - a) (drop a now))) → ((j : ℕ) → j < b - a → g j ≡ f (a + j)) → putMid a (b - a) now run ≡ tab f b ++ drop b d
-filled-run f g d now run a b h within e r agree =
-    ap (λ (l : List ℕ). l ++ (run ++ drop (b - a) (drop a now))) front
-    ∙ ap (λ (l : List ℕ). tab f a ++ (l ++ drop (b - a) (drop a now))) middle
-    ∙ ap (λ (l : List ℕ). tab f a ++ (tab (λ j. f (a + j)) (b - a) ++ l)) (ap (drop (b - a)) back ∙ drop-drop (b - a) a d ∙ ap (λ (k : ℕ). drop k d) whole)
-    ∙ sym (append-assoc (tab f a) (tab (λ j. f (a + j)) (b - a)) (drop b d))
-    ∙ ap (λ (l : List ℕ). l ++ drop b d) (sym (tab-append f a (b - a)) ∙ ap (tab f) whole)
-  where
-    whole : a + (b - a) ≡ b
-    whole = omega arith
-
-    front : take a now ≡ tab f a
-    front = ap (take a) e ∙ take-at (tab f a) (drop a d) a (length-tab f a)
-
-    back : drop a now ≡ drop a d
-    back = ap (drop a) e ∙ drop-at (tab f a) (drop a d) a (length-tab f a)
-
-    count : length (take (b - a) (drop a now)) ≡ b - a
-    count = rw back (simp (length-take, length-drop) (omega arith))
-
-    middle : run ≡ tab (λ j. f (a + j)) (b - a)
-    middle = r ∙ ap (tab g) count ∙ tab-ext g (λ j. f (a + j)) (b - a) agree
-
 -- where sector p of the FAT begins among the m entries
 pub sector-begins : (p k e m : ℕ) → p < k → k * e < m + e → p * e < m
 sector-begins p k e m h l = let q : (p + 1) * e ≤ k * e = mul-le-mul-right e (omega arith) in omega (arith, add-mul p 1 e, one-mul e)
@@ -192,7 +126,8 @@ loaded-none S img fats before =
     let z : min (0 * perSector S) (length before) ≡ 0 = omega (arith, zero-mul (perSector S)) in
     record { list = rw z (filled-none (entryOf S img fats) before); same = refl }
 
-pub loaded-more : (S : ℕ) (img fats : List ℕ) (p b : ℕ) (before now run : List ℕ) → Loaded S img fats p before now → p * perSector S < length before → b ≡ min (p * perSector S + perSector S) (length before)
+pub loaded-more : (S : ℕ) (img fats : List ℕ) (p b : ℕ) (before now run : List ℕ) → Loaded S img fats p before now → p * perSector S < length before
+    → b ≡ min (p * perSector S + perSector S) (length before)
     → run ≡ tab (entryIn (sectorOf S img (getD fats p 0))) (length (take (b - p * perSector S) (drop (p * perSector S) now)))
     → Loaded S img fats (p + 1) before (putMid (p * perSector S) (b - p * perSector S) now run)
 loaded-more S img fats p b before now run s h e r =
@@ -220,7 +155,8 @@ pub tail-last : (S : ℕ) (img fats : List ℕ) (n k : ℕ) → length fats ≡ 
     → freeFrom (sectorOf S img (getD fats k 0)) (n - k * perSector S) (k * perSector S + perSector S - n) ≡ tailFree S img fats n
 unfolding freeFrom freeAt tailFree
 tail-last S img fats n k e low high =
-    let whole : length fats * perSector S ≡ k * perSector S + perSector S = ap (λ (q : ℕ). q * perSector S) e ∙ add-mul k 1 (perSector S) ∙ ap (λ (q : ℕ). k * perSector S + q) (one-mul (perSector S)) in
+    let whole : length fats * perSector S ≡ k * perSector S + perSector S =
+    ap (λ (q : ℕ). q * perSector S) e ∙ add-mul k 1 (perSector S) ∙ ap (λ (q : ℕ). k * perSector S + q) (one-mul (perSector S)) in
     ap (λ (c : ℕ). every (c - n) (λ i. eqb (entryIn (sectorOf S img (getD fats k 0)) (n - k * perSector S + i)) freeSector)) (sym whole)
     ∙ every-ext (length fats * perSector S - n) _ _
     (λ i l.

@@ -11,26 +11,10 @@ use lib.Dec.{eqb, ltb}
 use lib.ListN.{length, getD, set, drop, length-set, drop-of-length-le}
 use lib.Seq.{drop-cons, getD-set-same, getD-set-other, set-getD}
 use Rattle.lists.specs.Lists.{both, every}
-use Rattle.lists.proofs.Cases.{same-or, below-or, both-left, both-right, both-true, every-at, every-yes, every-no, unlike}
+use Rattle.lists.proofs.Cases.{same-or, below-or, both-left, both-right, every-at, every-yes, every-no, unlike, every-of, same-test}
 use Rattle.consts.specs.Consts.{difatSector, fatSector}
 use Rattle.alloc.specs.Lists.{allBelow, different}
 use Rattle.alloc.specs.Judge.{allMarked, setAll, markedFat}
-
--- a test that holds at each number below n
-pub every-of : (n : ℕ) (f : ℕ → Bool) → ((i : ℕ) → i < n → f i ≡ true) → every n f ≡ true
-unfolding every
-every-of zero f h = refl
-every-of (suc n) f h = both-true (h n (omega arith)) (every-of n f (λ i l. h i (omega arith)))
-
--- two tests that hold together are one
-pub same-test : (a b : Bool) → (a ≡ true → b ≡ true) → (b ≡ true → a ≡ true) → a ≡ b
-same-test true b h k = sym (h refl)
-same-test false true h k = k refl
-same-test false false h k = refl
-
--- of two tests, the one that is left once the first holds
-pub both-of-true : (a b : Bool) → a ≡ true → both a b ≡ b
-both-of-true a b h = rw h
 
 -- every number is below n, at each place
 pub below-at : (n : ℕ) (xs : List ℕ) → allBelow n xs ≡ true → (i : ℕ) → i < length xs → getD xs i 0 < n

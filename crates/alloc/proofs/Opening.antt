@@ -1,11 +1,10 @@
 -- The laws of the opening's rows. Assumes nothing.
-use Prim.Native.Nat.{ℕ, zero, suc, _+_, _-_, _*_, _^_, _≤_, _<_}
+use Prim.Native.Nat.{ℕ, zero, suc}
 use mathlib.Core.Path.{_≡_, refl, sym, _∙_, ap}
 use mathlib.Core.Bool.{Bool, true, false, not}
 use mathlib.Core.List.{List, [], _∷_}
-use mathlib.Core.Logic.{_⊎_, inl, inr, ⊎-elim}
 use native.Mathlib.Omega.{arith}
-use borrow.Author.Tests.{eq-eqb, ne-eqb, eqb-true}
+use borrow.Author.Tests.{eq-eqb, ne-eqb}
 use lib.Dec.{eqb, leb}
 use lib.ListN.{length, getD}
 use Rattle.lists.specs.Lists.{choose, both}
@@ -17,7 +16,7 @@ use Rattle.consts.specs.Consts.{invalidSector, difatSector, fatSector}
 use Rattle.alloc.specs.Judge.{allMarked, markedFat, regular, pointed, wrongAt, firstWrong, forgivenFat, marksOf, noneDangles}
 use Rattle.sectors.specs.Sectors.{perSector}
 use Rattle.header.specs.declared.Header.{Header}
-use Rattle.alloc.specs.Lists.{ceil, fatCount, difatCount, fatOf, allBelow, countsRight, chainRight, restFree, idsRight, fatsRight, difatsIn, fatsIn, listsRight, tailFree}
+use Rattle.alloc.specs.Lists.{fatCount, difatCount, fatOf, allBelow, countsRight, chainRight, restFree, idsRight, fatsRight, difatsIn, fatsIn, listsRight, tailFree}
 use Rattle.alloc.specs.Loaded.{Counted, Covers, ListsLoaded}
 use Rattle.alloc.specs.Judged.{Judged, FatJudged, TablesLoaded}
 use Rattle.alloc.specs.Opening.{rawFat, judgedFat, openFat, fatRows, tableRows}
@@ -182,7 +181,9 @@ module _ (strict : Bool) (S : ℕ) (img : List ℕ) (h : Header) (n : ℕ) where
     unfolding openFat judgedFat rawFat
     tables-judged fat fat' marks q w e f here m j =
         record {
-          number = j .number ∙ ap (λ (k : ℕ). refusal (fatRows strict k fat difats fats)) m ∙ ap (λ (x : List ℕ). refusal (fatRows strict n x difats fats)) here ∙ sym (past-12 ∙ pass 13 _ _ (ap not (sym e ∙ f)));
+          number = j .number ∙ ap (λ (k : ℕ). refusal (fatRows strict k fat difats fats)) m
+              ∙ ap (λ (x : List ℕ). refusal (fatRows strict n x difats fats)) here
+              ∙ sym (past-12 ∙ pass 13 _ _ (ap not (sym e ∙ f)));
           fat-holds = λ z. j .table z ∙ opened;
           fats-hold = λ z. l .fats-hold t;
           difats-hold = λ z. l .difats-hold t;

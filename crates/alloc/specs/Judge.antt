@@ -1,8 +1,8 @@
 -- What a FAT says of its sectors (document 01, 14 to 18): marks, forgiveness, who points where. Assumes nothing.
 use Prim.Native.Nat.{ℕ, zero, suc}
-use mathlib.Core.Bool.{Bool, true, false, not}
+use mathlib.Core.Bool.{Bool, not}
 use mathlib.Core.List.{List, [], _∷_}
-use lib.Dec.{eqb, ltb, leb}
+use lib.Dec.{eqb, leb}
 use lib.ListN.{length, getD, set}
 use Rattle.lists.specs.Lists.{choose, both, every, tab}
 use Rattle.consts.specs.Consts.{maxRegular, invalidSector, difatSector, fatSector, endOfChain, freeSector}

@@ -1,9 +1,9 @@
 -- Where the FAT of an image stands, and what it says (MS-CFB 2.3, 2.5; document 01, k, d and R). Assumes nothing.
 use Prim.Native.Nat.{ℕ, zero, suc, _+_, _-_, _*_, _/_, _%_, min}
-use mathlib.Core.Bool.{Bool, true, false, not}
-use mathlib.Core.List.{List, [], _∷_, _++_}
-use lib.Dec.{eqb, ltb, leb}
-use lib.ListN.{length, getD, set}
+use mathlib.Core.Bool.{Bool, not}
+use mathlib.Core.List.{List}
+use lib.Dec.{eqb, ltb}
+use lib.ListN.{length, getD}
 use Rattle.lists.specs.Lists.{choose, both, either, every, tab}
 use Rattle.consts.specs.Consts.{endOfChain, freeSector}
 use Rattle.header.specs.Fields.{idsIn}

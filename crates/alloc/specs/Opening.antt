@@ -1,16 +1,14 @@
 -- The opening of an image (document 01, "Opening an image"), as a function that computes. Assumes nothing.
 use Prim.Native.Nat.{ℕ, _-_, _%_, min}
-use mathlib.Core.Path.{_≡_}
-use mathlib.Core.Bool.{Bool, true, false, not}
+use mathlib.Core.Bool.{Bool, not}
 use mathlib.Core.List.{List, [], _∷_, _++_}
 use lib.Dec.{eqb, ltb, leb}
 use lib.ListN.{length, replicate}
 use Rattle.lists.specs.Lists.{choose, both, either}
 use Rattle.lists.specs.Rows.{Row, row, refusal}
 use Rattle.header.specs.Fields.{lengthOf, isStrict}
-use Rattle.header.specs.Read.{headerRows, headerOf, none}
+use Rattle.header.specs.Read.{headerRows, headerOf}
 use Rattle.header.specs.declared.Validation.{Validation}
-use Rattle.header.specs.declared.Validation.the-variants.{Strict}
 use Rattle.header.specs.declared.Header.{Header}
 use Rattle.consts.specs.Consts.{difatSector, fatSector}
 use Rattle.alloc.specs.Lists.{most, sectorsIn, roomOf, fatOf, difatsIn, fatsIn, listsRight, tailFree}

@@ -1,16 +1,14 @@
 // The lists of an image's FAT and DIFAT sectors, loaded and judged (document 01, refusal 12).
 use crate::load::list_difats;
 use crate::load::list_fats;
-use crate::load::past_header;
 use crate::load::rest_free;
 use crate::marks::different;
 use header::Header;
 ghost use mathlib.Core.Path.{_≡_};
-ghost use mathlib.Core.Bool.{true};
-ghost use Prim.Native.Nat.{_+_, _-_, _*_, _^_, _≤_, _<_};
+ghost use Prim.Native.Nat.{_+_, _^_, _≤_, _<_};
 ghost use lib.ListN.{length};
-ghost use Rattle.sectors.specs.Sectors.{Holds, perSector};
-ghost use Rattle.alloc.specs.Lists.{ceil as ceilOf, fatCount, difatCount, countsRight, chainRight, fatsRight, difatsOf, fatsOf};
+ghost use Rattle.sectors.specs.Sectors.{Holds};
+ghost use Rattle.alloc.specs.Lists.{ceil as ceilOf, countsRight, chainRight, fatsRight, difatsOf, fatsOf};
 ghost use Rattle.alloc.specs.Loaded.{Counted, ListsLoaded, Loads, Places};
 
 // a / b, rounded up.

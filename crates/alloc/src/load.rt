@@ -1,10 +1,9 @@
 // The lists and the FAT out of an image's bytes (MS-CFB 2.3 and 2.5; document 01, refusals 12 and 13).
 ghost use mathlib.Core.Path.{_≡_};
-ghost use mathlib.Core.Bool.{true};
-ghost use Prim.Native.Nat.{_+_, _-_, _*_, _≤_, _<_, min};
+ghost use Prim.Native.Nat.{_+_, _-_, _≤_, min};
 ghost use lib.ListN.{length};
-ghost use Rattle.sectors.specs.Sectors.{Holds, perSector};
-ghost use Rattle.alloc.specs.Lists.{allBelow, ends as endsOf, placeAt, restFree, fatOf, tailFree};
+ghost use Rattle.sectors.specs.Sectors.{Holds};
+ghost use Rattle.alloc.specs.Lists.{ends as endsOf, placeAt, restFree, fatOf, tailFree};
 ghost use Rattle.alloc.specs.Loaded.{ChainListed, Covers, Places, PlacesListed};
 
 // Whether a pointer is END or FREE.

@@ -10,7 +10,7 @@ use lib.Dec.{eqb, leb, ltb}
 use lib.ListN.{length, getD, drop, length-drop}
 use lib.Seq.{getD-drop}
 use Rattle.lists.specs.Lists.{choose, both, either, sameList, Below}
-use Rattle.lists.specs.Rows.{Row, row, refusal}
+use Rattle.lists.specs.Rows.{Row, refusal}
 use Rattle.lists.proofs.Cases.{below-or, same-or, true-or, not-both, both-true, both-left, both-right, either-cases, unlike}
 use Rattle.lists.proofs.Splice.{sameList-refl, sameList-false}
 use Rattle.lists.proofs.Tab.{length-tab, getD-tab}

@@ -1,14 +1,13 @@
 -- The number that a reading ends with, row by row, and what the reader then says. Assumes nothing.
 use Prim.Native.Nat.{ℕ, _≤_, _<_}
 use mathlib.Core.Path.{_≡_, refl, sym, _∙_, ap}
-use mathlib.Core.Bool.{Bool, true, false, not}
-use mathlib.Core.List.{List, [], _∷_, _++_}
+use mathlib.Core.Bool.{true, false, not}
+use mathlib.Core.List.{List, [], _∷_}
 use borrow.Author.Tests.{lt-ltb, le-ltb, eq-eqb, ne-eqb}
-use lib.Dec.{eqb}
 use lib.ListN.{length}
-use Rattle.lists.specs.Lists.{choose, part, sameList}
-use Rattle.lists.specs.Rows.{Row, row, refusal, fresh, distinct}
-use Rattle.lists.proofs.Rows.{Passed, passed-none, passed-more, passed-given, passed-all, append-given, append-none}
+use Rattle.lists.specs.Lists.{part, sameList}
+use Rattle.lists.specs.Rows.{row, refusal, distinct}
+use Rattle.lists.proofs.Rows.{Passed, passed-none, passed-more, passed-given, append-given, append-none}
 use Rattle.consts.specs.Consts.{signature}
 use Rattle.header.specs.Fields.{listOf, idsThenFree}
 use Rattle.header.specs.Read.{fixedOf, fixedRows, readRows, readNo, readNumber, headerOf, none, ReadSays}

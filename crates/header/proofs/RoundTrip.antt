@@ -7,9 +7,9 @@ use mathlib.Core.Logic.{_⊎_, inl, inr, ⊎-elim, _≢_, _↔_}
 use native.Mathlib.Omega.{arith}
 use borrow.Author.Tests.{eq-eqb, ne-eqb, eqb-true, ltb-false, not-true, not-false}
 use lib.Dec.{eqb}
-use lib.ListN.{length, getD, replicate, length-replicate}
-use Rattle.lists.specs.Lists.{choose, both, either, splice, Below}
-use Rattle.lists.specs.Rows.{refusal, distinct, fresh}
+use lib.ListN.{length, replicate, length-replicate}
+use Rattle.lists.specs.Lists.{choose, splice, Below}
+use Rattle.lists.specs.Rows.{distinct, fresh}
 use Rattle.lists.proofs.Cases.{true-or, same-or, not-both, either-cases, either-right}
 use Rattle.lists.proofs.Rows.{First, given-first, given-none}
 use Rattle.lists.proofs.Splice.{below-splice, below-append, below-replicate}
@@ -17,11 +17,10 @@ use Rattle.lists.proofs.Tab.{length-tab, getD-tab}
 use Rattle.words.specs.Words.{le, digits}
 use Rattle.words.proofs.Laws.{le-below, below-digits}
 use Rattle.consts.specs.Consts.{signature, minorVersion, byteOrder, miniShift, miniCutoff, endOfChain, freeSector}
-use Rattle.header.specs.Fields.{majorOf, shiftOf, versionOf, isStrict, majorAt, dirsAt, difatAt, numberAt, entryAt, listOf, idsThenFree}
-use Rattle.header.specs.Read.{fixedOf, fixedRows, unknown, countsDirs, readRows, readNo, dirsOf, endIfFree, headerOf}
+use Rattle.header.specs.Fields.{majorOf, shiftOf, versionOf, majorAt, dirsAt, difatAt, numberAt, entryAt, listOf, idsThenFree}
+use Rattle.header.specs.Read.{unknown, countsDirs, readRows, readNo, dirsOf, endIfFree, headerOf}
 use Rattle.header.specs.Write.{startBytes, numberBytes, listBytes, headerBytes, unreadable, writeRows, writeNo, Sized}
-use Rattle.header.specs.declared.Version.{Version}
-use Rattle.header.specs.declared.Version.the-variants.{V3, V4}
+use Rattle.header.specs.declared.Version.the-variants.{V3}
 use Rattle.header.specs.declared.Validation.{Validation}
 use Rattle.header.specs.declared.Validation.the-variants.{Strict}
 use Rattle.header.specs.declared.Header.{Header}
@@ -152,7 +151,8 @@ given xs n low t =
     record {
       mode = Strict;
       bytes = splice blank 0 (headerBytes (around xs));
-      small = below-splice 256 blank 0 (headerBytes (around xs)) (omega (arith, length-blank, length-header (around xs) n)) (unfold blank in below-replicate 256 512 0 (omega arith)) (header-below (around xs));
+      small = below-splice 256 blank 0 (headerBytes (around xs)) (omega (arith, length-blank, length-header (around xs) n))
+          (unfold blank in below-replicate 256 512 0 (omega arith)) (header-below (around xs));
       read = r .0;
       gives = ap (λ (h : Header). h .list) (r .1);
     }

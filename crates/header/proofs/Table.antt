@@ -1,7 +1,7 @@
 -- The rules of the table of fields, each from one computed test over the whole table. Assumes nothing.
 use Prim.Native.Nat.{ℕ, _+_, _-_, _≤_, _<_}
 use mathlib.Core.Path.{_≡_, refl, sym, ap, _∙_}
-use mathlib.Core.Bool.{Bool, true, false, not}
+use mathlib.Core.Bool.{Bool, true, not}
 use mathlib.Core.List.{List}
 use mathlib.Core.Logic.{_⊎_, inl, inr, ⊎-elim}
 use native.Mathlib.Omega.{arith}
@@ -9,7 +9,7 @@ use borrow.Author.Tests.{eqb-true, leb-true, ltb-true}
 use borrow.Rule.Slice.PartMut.{putMid}
 use lib.Dec.{eqb, leb, ltb}
 use lib.ListN.{length, take, drop, replicate, length-take, length-drop, length-replicate}
-use Rattle.lists.specs.Lists.{both, either, every, splice, part}
+use Rattle.lists.specs.Lists.{either, every, splice, part}
 use Rattle.lists.proofs.Cases.{both-left, either-cases, every-at, not-both}
 use Rattle.lists.proofs.Splice.{putMid-splice, splice-whole, length-part}
 use Rattle.words.specs.Words.{le, digits}

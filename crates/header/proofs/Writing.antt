@@ -1,13 +1,12 @@
 -- The bytes of a header, put one field after the other, and what the writer then says. Assumes nothing.
-use Prim.Native.Nat.{ℕ, _+_, _*_, _≤_, _<_}
+use Prim.Native.Nat.{ℕ, _*_, _≤_, _<_}
 use mathlib.Core.Path.{_≡_, refl, sym, _∙_, ap}
 use mathlib.Core.Bool.{true, false}
-use mathlib.Core.List.{List, [], _∷_, _++_, append-assoc}
+use mathlib.Core.List.{List}
 use native.Mathlib.Omega.{arith}
 use borrow.Author.Tests.{lt-ltb, le-ltb, eq-eqb, ne-eqb}
 use lib.ListN.{length, replicate}
-use Rattle.lists.specs.Lists.{choose, splice}
-use Rattle.lists.specs.Rows.{refusal}
+use Rattle.lists.specs.Lists.{splice}
 use Rattle.lists.proofs.Rows.{Passed, passed-none, passed-more, passed-given, passed-all}
 use Rattle.lists.proofs.Splice.{splice-next}
 use Rattle.words.specs.Words.{digits}

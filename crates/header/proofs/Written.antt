@@ -1,16 +1,15 @@
 -- What the writer puts, a reader of either mode gives back. Assumes nothing.
 use Prim.Native.Nat.{ℕ, zero, suc, _+_, _*_, _^_, _≤_, _<_}
 use mathlib.Core.Path.{_≡_, refl, sym, _∙_, ap, ap₂}
-use mathlib.Core.Bool.{Bool, true, false, not}
+use mathlib.Core.Bool.{true, false, not}
 use mathlib.Core.List.{List, [], _∷_, _++_, append-assoc}
-use mathlib.Core.Logic.{_⊎_, inl, inr, ⊎-elim}
 use native.Mathlib.Omega.{arith}
-use native.Mathlib.Nat.{zero-add, mul-suc}
-use borrow.Author.Tests.{eq-eqb, ne-eqb, eqb-true, eqb-false, not-false}
+use native.Mathlib.Nat.{zero-add}
+use borrow.Author.Tests.{ne-eqb, eqb-true, eqb-false, not-false}
 use lib.Dec.{eqb}
-use lib.ListN.{length, getD, replicate, length-append, List·getD-append}
+use lib.ListN.{length, getD, length-append, List·getD-append}
 use lib.Seq.{getD-append-add}
-use Rattle.lists.specs.Lists.{choose, both, either, splice, part, sameList, Below, tab}
+use Rattle.lists.specs.Lists.{both, splice, part, Below}
 use Rattle.lists.specs.Rows.{refusal, distinct, fresh}
 use Rattle.lists.proofs.Cases.{either-none}
 use Rattle.lists.proofs.Rows.{given-none}
@@ -19,7 +18,7 @@ use Rattle.lists.proofs.Tab.{is-tab}
 use Rattle.words.specs.Words.{le, digits}
 use Rattle.words.proofs.Laws.{le-ext, le-inside, le-digits, length-digits}
 use Rattle.consts.specs.Consts.{signature, byteOrder, miniShift, miniCutoff, freeSector}
-use Rattle.header.specs.Fields.{majorOf, shiftOf, versionOf, isStrict, orderAt, majorAt, shiftAt, miniAt, dirsAt, fatsAt, dirAt, cutoffAt, minifatAt, minifatsAt, difatAt, difatsAt, offsetOf, widthOf, numberAt, entryAt, listOf, idsThenFree}
+use Rattle.header.specs.Fields.{majorOf, shiftOf, versionOf, orderAt, majorAt, shiftAt, miniAt, dirsAt, fatsAt, dirAt, cutoffAt, minifatAt, minifatsAt, difatAt, difatsAt, offsetOf, widthOf, numberAt, entryAt, listOf, idsThenFree}
 use Rattle.header.specs.Read.{fixedOf, fixedRows, unknown, countsDirs, dirsOf, endIfFree, headerOf, readNo}
 use Rattle.header.specs.Write.{startBytes, numberBytes, listBytes, headerBytes, unreadable, writeRows, writeNo, Sized}
 use Rattle.header.specs.declared.Version.{Version}

@@ -51,6 +51,16 @@ pub both-right : (a b : Bool) → both a b ≡ true → b ≡ true
 both-right true b h = h
 both-right false b h = absurd (not-both h refl)
 
+-- two tests that hold together are one
+pub same-test : (a b : Bool) → (a ≡ true → b ≡ true) → (b ≡ true → a ≡ true) → a ≡ b
+same-test true b h k = sym (h refl)
+same-test false true h k = k refl
+same-test false false h k = refl
+
+-- of two tests, the one that is left once the first holds
+pub both-of-true : (a b : Bool) → a ≡ true → both a b ≡ b
+both-of-true a b h = rw h
+
 -- a test that fails because one of two does
 pub both-false-left : (a b : Bool) → a ≡ false → both a b ≡ false
 both-false-left a b h = rw h
@@ -80,6 +90,30 @@ every-at zero f t i h = absurd (omega arith)
 every-at (suc n) f t i h =
     let rest : (j : ℕ) → j < n → f j ≡ true = every-at n f (both-right (f n) (every n f) t) in
     ⊎-elim (λ (l : i < n). rest i l) (λ (g : n ≤ i). let e : i ≡ n = omega arith in rw e (both-left (f n) (every n f) t)) (below-or i n)
+
+-- a test that holds at each number below n
+pub every-of : (n : ℕ) (f : ℕ → Bool) → ((i : ℕ) → i < n → f i ≡ true) → every n f ≡ true
+unfolding every
+every-of zero f h = refl
+every-of (suc n) f h = both-true (h n (omega arith)) (every-of n f (λ i l. h i (omega arith)))
+
+-- two tests that agree below n, and one that fails somewhere below n
+pub every-ext : (n : ℕ) (f g : ℕ → Bool) → ((i : ℕ) → i < n → f i ≡ g i) → every n f ≡ every n g
+unfolding every
+every-ext zero f g h = refl
+every-ext (suc n) f g h =
+    let rest : every n f ≡ every n g = every-ext n f g (λ i l. h i (omega arith)) in
+    rw (h n (omega arith), rest)
+
+pub every-false : (n : ℕ) (f : ℕ → Bool) (i : ℕ) → i < n → f i ≡ false → every n f ≡ false
+unfolding every
+every-false zero f i l h = absurd (omega arith)
+every-false (suc n) f i l h =
+    let rest : i < n → every n f ≡ false = λ k. every-false n f i k h in
+    ⊎-elim
+    (λ (k : i < n). both-false-right (f n) (every n f) (rest k))
+    (λ (k : n ≤ i). let e : i ≡ n = omega arith in both-false-left (f n) (every n f) (rw e at h))
+    (below-or i n)
 
 -- the test that two numbers differ
 pub alike : (a b : ℕ) → a ≡ b → not (eqb a b) ≡ false

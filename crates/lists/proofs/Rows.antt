@@ -3,13 +3,13 @@ use Prim.Native.Nat.{ℕ, zero, suc, _≤_, _<_}
 use mathlib.Core.Path.{_≡_, refl, sym, _∙_, ap}
 use mathlib.Core.Bool.{Bool, true, false, not}
 use mathlib.Core.List.{List, [], _∷_, _++_}
-use mathlib.Core.Logic.{_⊎_, inl, inr, ⊎-elim, _≢_}
+use mathlib.Core.Logic.{⊎-elim}
 use native.Mathlib.Omega.{arith}
 use borrow.Author.Tests.{not-true, eqb-false}
 use lib.Dec.{eqb}
 use lib.ListN.{length, getD, drop, drop-of-length-le, List·getD-eq-default}
 use lib.Seq.{drop-cons, drop-length}
-use Rattle.lists.specs.Lists.{choose, both}
+use Rattle.lists.specs.Lists.{choose}
 use Rattle.lists.specs.Rows.{Row, row, refusal, fresh, distinct}
 use Rattle.lists.proofs.Cases.{below-or, both-left, both-right, not-both, true-or}
 

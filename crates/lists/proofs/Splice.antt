@@ -1,7 +1,7 @@
 -- The laws of `splice`, `part`, `sameList` and `Below`. Assumes nothing.
-use Prim.Native.Nat.{ℕ, zero, suc, _+_, _-_, _≤_, _<_}
+use Prim.Native.Nat.{ℕ, _+_, _-_, _≤_, _<_}
 use mathlib.Core.Path.{_≡_, refl, _∙_, sym, ap}
-use mathlib.Core.Bool.{Bool, true, false}
+use mathlib.Core.Bool.{true, false}
 use mathlib.Core.List.{List, [], _∷_, _++_}
 use mathlib.Core.Logic.{_⊎_, inl, inr, ⊎-elim}
 use native.Mathlib.Omega.{arith}
@@ -11,7 +11,7 @@ use borrow.Rule.Slice.PartMut.{putMid}
 use lib.Dec.{eqb}
 use lib.ListN.{length, getD, take, drop, set, replicate, length-append, length-take, length-drop, take-append-drop, List·getD-append}
 use lib.Seq.{ext-getD, getD-append-add, getD-take, getD-drop, getD-set-same, getD-set-other, length-take-le, drop-drop}
-use Rattle.lists.specs.Lists.{splice, part, sameList, both, Below}
+use Rattle.lists.specs.Lists.{splice, part, sameList, Below}
 use Rattle.lists.proofs.Cases.{below-or, both-left, both-right, both-true, not-both}
 
 -- a part: its length, and what stands in it

@@ -1,15 +1,16 @@
 -- The laws of `tab`. Assumes nothing.
-use Prim.Native.Nat.{ℕ, zero, suc, _+_, _≤_, _<_}
+use Prim.Native.Nat.{ℕ, zero, suc, _+_, _-_, _≤_, _<_}
 use mathlib.Core.Path.{_≡_, refl, _∙_, sym, ap}
-use mathlib.Core.List.{List, [], _∷_, _++_, append-nil}
-use mathlib.Core.Logic.{_⊎_, ⊎-elim, _≢_}
+use mathlib.Core.List.{List, [], _∷_, _++_, append-nil, append-assoc}
+use mathlib.Core.Logic.{_⊎_, inl, inr, ⊎-elim, _≢_}
 use native.Mathlib.Omega.{arith}
 use native.Mathlib.Nat.{add-zero, zero-add, add-suc, suc-add, not-suc-le-zero, le-of-suc-le-suc}
 use native.Mathlib.Numerals.{add-one}
-use lib.ListN.{length, getD, set, drop, length-append, length-drop, length-set}
-use lib.Seq.{ext-getD, getD-set-same, getD-set-other, drop-cons, drop-length, set-at, append-snoc}
+use borrow.Rule.Slice.PartMut.{putMid}
+use lib.ListN.{length, getD, set, take, drop, length-append, length-take, length-drop, length-set, List·getD-append}
+use lib.Seq.{ext-getD, getD-set-same, getD-set-other, drop-cons, drop-length, set-at, append-snoc, getD-append-add, drop-drop, take-at, drop-at}
 use Rattle.lists.specs.Lists.{tabFrom, tab}
-use Rattle.lists.proofs.Cases.{same-or}
+use Rattle.lists.proofs.Cases.{below-or, same-or}
 
 length-tabFrom : (f : ℕ → ℕ) (k n : ℕ) → length (tabFrom f k n) ≡ n
 unfolding tabFrom
@@ -79,3 +80,44 @@ length-filled f d j h = simp (length-append, length-tab, length-drop) (omega ari
 -- the whole list filled
 pub filled-all : (f : ℕ → ℕ) (d now : List ℕ) (j : ℕ) → length d ≡ j → now ≡ tab f j ++ drop j d → now ≡ tab f (length d)
 filled-all f d now j e h = h ∙ rw (← e, drop-length, append-nil)
+
+-- a table in two runs
+pub tab-append : (f : ℕ → ℕ) (a c : ℕ) → tab f (a + c) ≡ tab f a ++ tab (λ j. f (a + j)) c
+tab-append f a c =
+    sym (is-tab (tab f a ++ tab (λ j. f (a + j)) c) f (a + c) (length-append (tab f a) _ ∙ omega (arith, length-tab f a, length-tab (λ j. f (a + j)) c))
+    (λ i l. at i l (below-or i a)))
+  where
+    at : (i : ℕ) → i < a + c → (i < a) ⊎ (a ≤ i) → getD (tab f a ++ tab (λ j. f (a + j)) c) i 0 ≡ f i
+    at i l (inl low) = List·getD-append (tab f a) _ 0 i (rw length-tab low) ∙ getD-tab f a i 0 low
+    at i l (inr high) =
+        let p : length (tab f a) + (i - a) ≡ i = omega (arith, length-tab f a) in
+        let q : a + (i - a) ≡ i = omega arith in
+        ap (λ (k : ℕ). getD (tab f a ++ tab (λ j. f (a + j)) c) k 0) (sym p)
+        ∙ getD-append-add (tab f a) (tab (λ j. f (a + j)) c) (i - a) 0
+        ∙ getD-tab (λ j. f (a + j)) c (i - a) 0 (omega arith)
+        ∙ ap f q
+
+-- a loop that fills a list run by run: a run from a to b that was lent as a part and came back
+pub filled-run : (f g : ℕ → ℕ) (d now run : List ℕ) (a b : ℕ) → a ≤ b → b ≤ length d → now ≡ tab f a ++ drop a d
+    → run ≡ tab g (length (take (b - a) (drop a now))) → ((j : ℕ) → j < b - a → g j ≡ f (a + j)) → putMid a (b - a) now run ≡ tab f b ++ drop b d
+filled-run f g d now run a b h within e r agree =
+    ap (λ (l : List ℕ). l ++ (run ++ drop (b - a) (drop a now))) front
+    ∙ ap (λ (l : List ℕ). tab f a ++ (l ++ drop (b - a) (drop a now))) middle
+    ∙ ap (λ (l : List ℕ). tab f a ++ (tab (λ j. f (a + j)) (b - a) ++ l)) (ap (drop (b - a)) back ∙ drop-drop (b - a) a d ∙ ap (λ (k : ℕ). drop k d) whole)
+    ∙ sym (append-assoc (tab f a) (tab (λ j. f (a + j)) (b - a)) (drop b d))
+    ∙ ap (λ (l : List ℕ). l ++ drop b d) (sym (tab-append f a (b - a)) ∙ ap (tab f) whole)
+  where
+    whole : a + (b - a) ≡ b
+    whole = omega arith
+
+    front : take a now ≡ tab f a
+    front = ap (take a) e ∙ take-at (tab f a) (drop a d) a (length-tab f a)
+
+    back : drop a now ≡ drop a d
+    back = ap (drop a) e ∙ drop-at (tab f a) (drop a d) a (length-tab f a)
+
+    count : length (take (b - a) (drop a now)) ≡ b - a
+    count = rw back (simp (length-take, length-drop) (omega arith))
+
+    middle : run ≡ tab (λ j. f (a + j)) (b - a)
+    middle = r ∙ ap (tab g) count ∙ tab-ext g (λ j. f (a + j)) (b - a) agree

@@ -1,6 +1,6 @@
 -- A table of refusals, as document 01 prints one: rows in their order, each a number and a test. Assumes nothing.
 use Prim.Native.Nat.{ℕ}
-use mathlib.Core.Bool.{Bool, true, false, not}
+use mathlib.Core.Bool.{Bool, true, not}
 use mathlib.Core.List.{List, [], _∷_}
 use lib.Dec.{eqb}
 use Rattle.lists.specs.Lists.{choose, both}

@@ -3,9 +3,9 @@ use Prim.Native.Nat.{ℕ, zero, suc, _+_, _*_, _/_, _%_, _^_, _≤_, _<_}
 use mathlib.Core.Path.{_≡_, refl, _∙_, sym, ap}
 use mathlib.Core.Bool.{Bool, true, false}
 use mathlib.Core.List.{List, [], _∷_, _++_}
-use mathlib.Core.Logic.{_⊎_, inl, inr, ⊎-elim}
+use mathlib.Core.Logic.{_⊎_, ⊎-elim}
 use native.Mathlib.Omega.{arith}
-use native.Mathlib.Nat.{add-zero, zero-add, add-assoc, add-suc, div-add-mod', pow-suc}
+use native.Mathlib.Nat.{add-zero, zero-add, add-assoc, pow-suc}
 use native.Mathlib.Numerals.{add-one}
 use lib.ListN.{length, getD, set, take}
 use lib.Seq.{ext-getD, length-take-le, take-suc}

@@ -1,3 +1,4 @@
+-- An entry is by definition the four bytes from 4 j on.
 use Rattle.sectors.specs.Sectors.{entryIn}
 use borrow.Author.Needs.{needs}
 use Rattle.sectors.proofs.entry.Statement.{statement}

@@ -1,8 +1,8 @@
+-- The invariant: out holds the entries below j, and from j on what it held before.
 use Prim.Native.Nat.{ℕ, _≤_, _-_}
 use mathlib.Core.Path.{_≡_, refl, _∙_, ap}
 use mathlib.Core.List.{List, _++_}
 use native.Mathlib.Omega.{arith}
-use borrow.Author.Needs.{needs}
 use lib.ListN.{length, drop, set, length-set}
 use Rattle.lists.specs.Lists.{tab}
 use Rattle.lists.proofs.Tab.{filled-none, filled-more, filled-all}

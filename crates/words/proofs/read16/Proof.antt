@@ -1,3 +1,4 @@
+-- `le` of two bytes, unfolded, is the sum that is returned; each byte is below 256, so the sum has room.
 use native.Mathlib.Omega.{arith}
 use Rattle.words.specs.Words.{le}
 use borrow.Author.Needs.{needs}

@@ -1,3 +1,4 @@
+-- `le` of four bytes, unfolded, is the sum that is returned, bracketed another way; each byte is below 256, so the sum has room.
 use native.Mathlib.Nat.{add-assoc}
 use native.Mathlib.Omega.{arith}
 use Rattle.words.specs.Words.{le}

@@ -1,3 +1,4 @@
+-- The causes are tested in the order of their numbers: at a return those before it are passed, by the laws of First.
 use Prim.Native.Nat.{ℕ, _-_, _/_, _%_, _≤_, _<_}
 use mathlib.Core.Path.{_≡_, sym, _∙_, ap}
 use mathlib.Core.List.{List}
@@ -124,11 +125,12 @@ returns-7 c =
     let f = c .before .before in
     let w = f .before in
     let e = w .before .before in
-    record
-    { number = early-passed _ _ _ _ (e .before .before .before .if1 .left) (e .before .before .if2 .left) (read e) (whole w) (rw (count w) at (f .if5 .left)) (rw (room-is (c .before)) at (c .if6 .left))
-    ; len = λ z. length-is (w .before)
-    ; sectors = λ z. count w
-    ; header = λ z. read-header _ _ _ (e .before .before .before .before .before .read-from .ensures) (read e) }
+    record {
+      number = early-passed _ _ _ _ (e .before .before .before .if1 .left) (e .before .before .if2 .left) (read e) (whole w) (rw (count w) at (f .if5 .left)) (rw (room-is (c .before)) at (c .if6 .left));
+      len = λ z. length-is (w .before);
+      sectors = λ z. count w;
+      header = λ z. read-header _ _ _ (e .before .before .before .before .before .read-from .ensures) (read e);
+    }
 
 pub judge-early-spec : {M : Type 1} → statement M
 judge-early-spec =

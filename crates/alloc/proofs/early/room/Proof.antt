@@ -1,3 +1,4 @@
+-- Two cases of a quotient, by arithmetic.
 use native.Mathlib.Omega.{arith}
 use Rattle.alloc.specs.Lists.{roomOf, sectorsIn}
 use borrow.Author.Needs.{needs}

@@ -1,3 +1,4 @@
+-- The quotient is the definition's own; the numbers are small enough for the sum.
 use mathlib.Core.Path.{refl}
 use Rattle.alloc.specs.Lists.{ceil}
 use borrow.Author.Needs.{needs}

@@ -1,5 +1,5 @@
+-- The three tests are the definition's, in its order; the smaller of k and 109 is told by the last branch.
 use Rattle.alloc.proofs.Listing.{counts-same}
-use mathlib.Core.Path.{_≡_, sym, _∙_}
 use native.Mathlib.Omega.{arith}
 use borrow.Author.Tests.{eq-eqb, ne-eqb}
 use Rattle.alloc.specs.Lists.{countsRight}

@@ -1,5 +1,4 @@
-use mathlib.Core.Path.{_≡_, sym, _∙_}
-use mathlib.Core.Bool.{true}
+-- The listing tells whether all are below n and the chain ends, and only then is the list looked through for repeats: together the definition's test.
 use native.Mathlib.Omega.{arith}
 use borrow.Author.Tests.{not-true, not-false}
 use Rattle.alloc.proofs.Listing.{below-more, chain-not, chain-below, chain-loads}
@@ -19,7 +18,8 @@ returns c = chain-not _ _ _ _ _ _ _ (c .before .before .before .list-difats .ens
 different-requires : tie.Need-different-requires
 different-requires c κs = let l = c .before .before .before .before .before in
     let g = l .before .before .before .before .before in
-    (below-more _ _ _ (g .pre .1 .1) (chain-below _ _ _ _ _ _ _ (l .list-difats .ensures) (not-false _ (c .before .before .if1 .left))), omega (arith, l .list-difats .kept .1 .1 .1 .1 .0, g .pre .1 .0))
+    let below = chain-below _ _ _ _ _ _ _ (l .list-difats .ensures) (not-false _ (c .before .before .if1 .left)) in
+    (below-more _ _ _ (g .pre .1 .1) below, omega (arith, l .list-difats .kept .1 .1 .1 .1 .0, g .pre .1 .0))
 
 same-length-2 : tie.Need-same-length-2
 same-length-2 c = search needs

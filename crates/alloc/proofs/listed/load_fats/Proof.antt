@@ -1,3 +1,4 @@
+-- The listing tells whether all are below n, then FREE must follow, and only then is the list looked through for repeats: together the definition's test.
 use Prim.Native.Nat.{ℕ}
 use mathlib.Core.Path.{_≡_, sym, _∙_, ap}
 use lib.ListN.{length}
@@ -56,7 +57,8 @@ returns-3 : tie.Need-returns-3
 returns-3 c =
     let r = c .before .before .before .before .before .before in
     let l = r .before .before .before .before in
-    fats-load _ _ _ _ _ _ _ _ _ (l .list-fats .ensures) (not-false _ (r .before .if1 .left)) (followed r ∙ not-false _ (c .before .before .before .before .before .if2 .left)) (c .before .before .different .ensures)
+    fats-load _ _ _ _ _ _ _ _ _ (l .list-fats .ensures) (not-false _ (r .before .if1 .left))
+    (followed r ∙ not-false _ (c .before .before .before .before .before .if2 .left)) (c .before .before .different .ensures)
 
 pub load-fats-spec : {M : Type 1} → statement M
 load-fats-spec =

@@ -1,4 +1,5 @@
-use mathlib.Core.Path.{_≡_, sym, _∙_, ap}
+-- The counts, the DIFAT chain and the FAT's list are tested in the definition's order. The chain that was loaded is what the places are read from.
+use mathlib.Core.Path.{_≡_, sym, _∙_}
 use lib.ListN.{length}
 use native.Mathlib.Omega.{arith}
 use borrow.Author.Tests.{not-true, not-false}
@@ -43,7 +44,10 @@ load-fats-requires c κs =
     let i = c .before .before .before .before .before in
     let l = i .before .before .before .before .before in
     let g = l .before .before .before .before .before .before .before .before .before in
-    (places-ready _ _ _ _ _ _ _ _ _ _ (g .pre .0) (entries-there (c .before .before .before)) (l .load-difats .kept .1 .1 .1 .1 .0) (l .load-difats .ensures) (not-false _ (i .if2 .left)), (omega (arith, fats-few _ _ _ _ _ (g .pre .0), g .pre .0 .few), omega (arith, l .load-difats .kept .1 .1 .1 .1 .1 .0, g .pre .1)))
+    let kept = l .load-difats .kept .1 .1 .1 .1 in (
+      places-ready _ _ _ _ _ _ _ _ _ _ (g .pre .0) (entries-there (c .before .before .before)) (kept .0) (l .load-difats .ensures) (not-false _ (i .if2 .left)),
+      (omega (arith, fats-few _ _ _ _ _ (g .pre .0), g .pre .0 .few), omega (arith, kept .1 .0, g .pre .1)),
+    )
 
 same-length-3 : tie.Need-same-length-3
 same-length-3 c = search needs
@@ -59,7 +63,9 @@ returns-3 c =
     let i = c .before .before .before .before .before .before .before .before .before .before in
     let l = i .before .before .before .before .before in
     let g = l .before .before .before .before .before .before .before .before .before in
-    lists-load _ _ _ _ _ _ (g .pre .0 .fats) (g .pre .0 .difats) _ _ _ _ (sym (l .before .before .before .before .counts-right .ensures) ∙ not-false _ (l .before .before .before .if1 .left)) (l .load-difats .ensures) (not-false _ (i .if2 .left)) (c .before .before .before .before .load-fats .ensures)
+    lists-load _ _ _ _ _ _ (g .pre .0 .fats) (g .pre .0 .difats) _ _ _ _
+    (sym (l .before .before .before .before .counts-right .ensures) ∙ not-false _ (l .before .before .before .if1 .left))
+    (l .load-difats .ensures) (not-false _ (i .if2 .left)) (c .before .before .before .before .load-fats .ensures)
 
 pub load-lists-spec : {M : Type 1} → statement M
 load-lists-spec =

@@ -1,3 +1,4 @@
+-- The two tests are the definition's, in its order.
 use borrow.Author.Tests.{eq-eqb, ne-eqb}
 use Rattle.alloc.specs.Lists.{ends}
 use Rattle.alloc.proofs.load.ends.Statement.{statement}

@@ -1,5 +1,6 @@
-use Prim.Native.Nat.{ℕ, _-_, _^_, _≤_, _<_}
-use mathlib.Core.Path.{_≡_, refl, sym, _∙_, ap}
+-- The invariant: id is the j-th sector of the chain, the j before it are below n, and they stand at the front of the list.
+use Prim.Native.Nat.{_-_, _^_, _≤_, _<_}
+use mathlib.Core.Path.{_≡_, refl}
 use native.Mathlib.Omega.{arith}
 use borrow.Author.Needs.{needs}
 use lib.ListN.{length, length-set}
@@ -11,7 +12,9 @@ use Rattle.alloc.proofs.load.list_difats.Statement.{statement}
 use Rattle.alloc.proofs.load.list_difats.Tie as tie
 
 abbrev Inv-loop : tie.InvT-loop
-Inv-loop image s n first difats₀ last id₀ j₀ difats id j = (j ≤ length difats₀) × (last ≡ perSector s - 1) × (id < 2 ^ 32) × (id ≡ difatAt s image first j) × Filling (difatAt s image first) n j difats₀ difats × (length difats ≡ length difats₀)
+Inv-loop image s n first difats₀ last id₀ j₀ difats id j =
+    (j ≤ length difats₀) × (last ≡ perSector s - 1) × (id < 2 ^ 32) × (id ≡ difatAt s image first j)
+    × Filling (difatAt s image first) n j difats₀ difats × (length difats ≡ length difats₀)
 
 abbrev μ-loop : tie.MeasureT-loop
 μ-loop image s n first difats₀ last id₀ j₀ difats id j = length difats₀ - j

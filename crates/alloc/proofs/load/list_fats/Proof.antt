@@ -1,5 +1,6 @@
-use Prim.Native.Nat.{ℕ, _-_, _≤_}
-use mathlib.Core.Path.{_≡_, refl, sym, _∙_}
+-- The invariant: the first p places are below n, and stand at the front of the list.
+use Prim.Native.Nat.{_-_, _≤_}
+use mathlib.Core.Path.{_≡_, refl}
 use native.Mathlib.Omega.{arith}
 use lib.ListN.{length, length-set}
 use Rattle.alloc.specs.Lists.{placeAt}

@@ -1,11 +1,13 @@
-use Prim.Native.Nat.{ℕ, _+_, _-_, _*_, _≤_, _<_, min}
-use mathlib.Core.Path.{_≡_, refl, sym, _∙_, ap}
+-- The invariant: the entries of the first p sectors stand at the front of the FAT, cut where it ends; a turn lends the next run and puts it back filled.
+use Prim.Native.Nat.{_-_, _*_, _≤_, _<_, min}
+use mathlib.Core.Path.{_≡_, refl, _∙_, ap}
 use native.Mathlib.Omega.{arith}
 use borrow.Author.Needs.{needs}
 use lib.ListN.{length, getD, length-take}
 use Rattle.sectors.specs.Sectors.{perSector}
 use Rattle.sectors.proofs.Laws.{sector-within}
-use Rattle.alloc.proofs.Loading.{Loaded, loaded-none, loaded-more, loaded-all, sector-begins, below-at}
+use Rattle.alloc.proofs.Marking.{below-at}
+use Rattle.alloc.proofs.Loading.{Loaded, loaded-none, loaded-more, loaded-all, sector-begins}
 use Rattle.alloc.proofs.load.load_fat.Statement.{statement}
 use Rattle.alloc.proofs.load.load_fat.Tie as tie
 
@@ -56,8 +58,10 @@ part-load-at-end : tie.Need-part-load-at-end Inv-loop μ-loop
 part-load-at-end c = omega (arith, c .before .before .before .loop .inv .2 .same, c .before .lesser .ensures)
 
 load-at-requires : tie.Need-load-at-requires Inv-loop μ-loop
-load-at-requires c κs = let g = c .before .before .before .before .before .before .before .before in
-    (sector-within _ _ _ _ (g .pre .holds) (at-id (c .before .before .before)), (omega (arith, g .pre .holds .two), simp length-take (omega (arith, g .pre .holds .entries, c .before .before .lesser .ensures))))
+load-at-requires c κs = let g = c .before .before .before .before .before .before .before .before in (
+  sector-within _ _ _ _ (g .pre .holds) (at-id (c .before .before .before)),
+  (omega (arith, g .pre .holds .two), simp length-take (omega (arith, g .pre .holds .entries, c .before .before .lesser .ensures))),
+)
 
 add-p : tie.Need-add-p Inv-loop μ-loop
 add-p c = omega arith
@@ -68,7 +72,8 @@ loop-less c = omega arith
 loop-again : tie.Need-loop-again Inv-loop μ-loop
 loop-again c = let l = c .before .before .before .before .before .before .before .loop in
     let g = c .before .before .before .before .before .before .before .before .before .before .before in
-    (omega arith, l .inv .1, loaded-more _ _ _ (l .p) _ _ (l .fat) _ (l .inv .2) (begins (c .before .before .before .before .before .before)) (c .before .before .before .before .before .lesser .ensures .2 ∙ ap (min _) (l .inv .2 .same)) (c .before .before .load-at .ensures))
+    let end = c .before .before .before .before .before .lesser .ensures .2 ∙ ap (min _) (l .inv .2 .same) in
+    (omega arith, l .inv .1, loaded-more _ _ _ (l .p) _ _ (l .fat) _ (l .inv .2) (begins (c .before .before .before .before .before .before)) end (c .before .before .load-at .ensures))
 
 same-length : tie.Need-same-length Inv-loop μ-loop
 same-length c = omega (arith, c .before .loop .inv .2 .same)

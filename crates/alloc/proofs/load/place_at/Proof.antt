@@ -1,10 +1,11 @@
-use mathlib.Core.Path.{_∙_}
+-- A place below 109 stands in the header's list. Any other is in the DIFAT sector that its quotient names, which is listed and below n, at the remainder.
 use Prim.Native.Nat.{ℕ, _-_, _/_, _≤_, _<_}
 use lib.ListN.{length, getD}
 use Rattle.sectors.specs.Sectors.{perSector}
 use native.Mathlib.Omega.{arith}
 use Rattle.sectors.proofs.Laws.{sector-within}
-use Rattle.alloc.proofs.Loading.{place-low, place-high, place-index, place-slot, below-at}
+use Rattle.alloc.proofs.Marking.{below-at}
+use Rattle.alloc.proofs.Loading.{place-low, place-high, place-index, place-slot}
 use borrow.Author.Needs.{needs}
 use Rattle.alloc.proofs.load.place_at.Statement.{statement}
 use Rattle.alloc.proofs.load.place_at.Tie as tie

@@ -1,3 +1,4 @@
+-- The invariant: the flag says whether the first j places of the DIFAT sectors past the k are all FREE.
 use Prim.Native.Nat.{ℕ, _+_, _-_, _*_, _≤_}
 use mathlib.Core.Path.{_≡_, refl, sym, _∙_, ap}
 use mathlib.Core.Bool.{Bool}
@@ -17,7 +18,9 @@ use Rattle.alloc.proofs.load.rest_free.Statement.{statement}
 use Rattle.alloc.proofs.load.rest_free.Tie as tie
 
 abbrev Inv-loop : tie.InvT-loop
-Inv-loop image s n list difats k over count free₀ j₀ free j = (over ≡ k - 109) × (count ≡ length difats * (perSector s - 1) - (k - 109)) × (j ≤ count) × (free ≡ every j (λ i. eqb (placeAt s image list difats (109 + (k - 109) + i)) freeSector))
+Inv-loop image s n list difats k over count free₀ j₀ free j =
+    (over ≡ k - 109) × (count ≡ length difats * (perSector s - 1) - (k - 109)) × (j ≤ count)
+    × (free ≡ every j (λ i. eqb (placeAt s image list difats (109 + (k - 109) + i)) freeSector))
 
 abbrev μ-loop : tie.MeasureT-loop
 μ-loop image s n list difats k over count free₀ j₀ free j = count - j

@@ -1,10 +1,12 @@
+-- The entries from n on all lie in the last sector, which begins below n and reaches to it at least; with no sectors there are none.
 use Prim.Native.Nat.{ℕ, _+_, _-_, _*_, _≤_, _<_}
-use mathlib.Core.Path.{_≡_, sym, _∙_}
+use mathlib.Core.Path.{_∙_}
 use native.Mathlib.Omega.{arith}
 use lib.ListN.{length, getD}
 use Rattle.sectors.specs.Sectors.{perSector}
 use Rattle.sectors.proofs.Laws.{sector-within}
-use Rattle.alloc.proofs.Loading.{sector-begins, sector-reaches, below-at, tail-none, tail-last}
+use Rattle.alloc.proofs.Marking.{below-at}
+use Rattle.alloc.proofs.Loading.{sector-begins, sector-reaches, tail-none, tail-last}
 use borrow.Author.Needs.{needs}
 use Rattle.alloc.proofs.load.tail_free.Statement.{statement}
 use Rattle.alloc.proofs.load.tail_free.Tie as tie
@@ -58,7 +60,9 @@ free-at-requires c κs = let g = c .before .before .before .before in
 
 returns-2 : tie.Need-returns-2
 returns-2 c = let g = c .before .before .before .before .before in
-    c .free-at .ensures ∙ tail-last (g .args .s) (g .args .image .now) (g .args .fats .now) (g .args .n) (length (g .args .fats .now) - 1) (omega (arith, c .before .before .if1 .left)) (omega (arith, begins (c .before .before))) (g .pre .enough)
+    c .free-at .ensures
+    ∙ tail-last (g .args .s) (g .args .image .now) (g .args .fats .now) (g .args .n) (length (g .args .fats .now) - 1)
+    (omega (arith, c .before .before .if1 .left)) (omega (arith, begins (c .before .before))) (g .pre .enough)
 
 pub tail-free-spec : {M : Type 1} → statement M
 tail-free-spec =

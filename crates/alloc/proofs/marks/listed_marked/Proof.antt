@@ -2,8 +2,7 @@
 use mathlib.Core.Path.{_∙_, sym}
 use borrow.Author.Needs.{needs}
 use borrow.Author.Tests.{not-true, not-false}
-use Rattle.lists.proofs.Cases.{both-false-left}
-use Rattle.alloc.proofs.Marking.{both-of-true}
+use Rattle.lists.proofs.Cases.{both-false-left, both-of-true}
 use Rattle.alloc.proofs.marks.listed_marked.Statement.{statement}
 use Rattle.alloc.proofs.marks.listed_marked.Tie as tie
 

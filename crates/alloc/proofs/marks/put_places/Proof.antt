@@ -49,7 +49,8 @@ loop-less c = omega arith
 
 loop-again : tie.Need-loop-again Inv-loop μ-loop
 loop-again c = let l = c .before .before .before .loop in
-    (omega arith, placed-more (c .before .before .before .before .before .before .args .list .now) (l .scratch) (l .j) (c .index .result) (c .index .ensures) (within c) (l .inv .1), simp length-set (l .inv .2))
+    let list = c .before .before .before .before .before .before .args .list .now in
+    (omega arith, placed-more list (l .scratch) (l .j) (c .index .result) (c .index .ensures) (within c) (l .inv .1), simp length-set (l .inv .2))
 
 same-length : tie.Need-same-length Inv-loop μ-loop
 same-length c = omega arith

@@ -1,3 +1,4 @@
+-- The counts computed are those that n sectors ask for, and each table is loaded into a front of that count: `filled`.
 use Prim.Native.Nat.{ℕ, _-_, _≤_, _<_}
 use mathlib.Core.Path.{_≡_, refl, sym, _∙_, ap}
 use native.Mathlib.Omega.{arith}
@@ -69,10 +70,11 @@ load-tables-requires : tie.Need-load-tables-requires
 load-tables-requires c κs =
     let s = c .before .before .before .before .before in
     let g = entry s in
-    let n : length (take (g .args .n) (g .args .fat .now)) ≡ g .args .n = length-take-le _ _ (g .pre .fat-long) in
-    (counted-same _ _ _ _ _ _ _ _ n
-    (length-take-le _ _ (omega (arith, fats-few _ _ _ _ _ (counted s), g .pre .fats-long))) (length-take-le _ _ (omega (arith, difats-few _ _ _ _ _ (counted s), g .pre .difats-long))) (counted s),
-    (omega (arith, n, g .pre .scratch-long), zero-front _ _ (g .pre .marks-zero) (g .pre .marks-long) ∙ ap (λ (m : ℕ). replicate m 0) (sym n)))
+    let n : length (take (g .args .n) (g .args .fat .now)) ≡ g .args .n = length-take-le _ _ (g .pre .fat-long) in (
+      counted-same _ _ _ _ _ _ _ _ n
+          (length-take-le _ _ (omega (arith, fats-few _ _ _ _ _ (counted s), g .pre .fats-long))) (length-take-le _ _ (omega (arith, difats-few _ _ _ _ _ (counted s), g .pre .difats-long))) (counted s),
+      (omega (arith, n, g .pre .scratch-long), zero-front _ _ (g .pre .marks-zero) (g .pre .marks-long) ∙ ap (λ (m : ℕ). replicate m 0) (sym n)),
+    )
 
 same-length : tie.Need-same-length
 same-length c = search needs

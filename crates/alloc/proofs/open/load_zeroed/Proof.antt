@@ -1,6 +1,6 @@
--- Loads into the fronts, then lists the FREE sectors over zeros: `free-listed` of Filled. Assumes nothing.
-use Prim.Native.Nat.{ℕ, _≤_}
-use mathlib.Core.Path.{_≡_, refl, sym, _∙_, ap}
+-- A refused loading is that of `fill_tables`; otherwise the FREE sectors are listed into zeros, by `free-listed`.
+use Prim.Native.Nat.{ℕ}
+use mathlib.Core.Path.{_≡_, sym, _∙_, ap}
 use native.Mathlib.Omega.{arith}
 use lib.ListN.{length, take, replicate}
 use lib.Seq.{length-take-le}
@@ -30,14 +30,15 @@ same-length-5 c = search needs
 returns : tie.Need-returns
 returns c =
     let l = c .before .before .before .before .before .before .before .before .before .before .before in
-    record
-    { number = l .fill-tables .ensures .number
-    ; free = λ z. absurd (c .if1 .taken z)
-    ; fat-holds = λ z. absurd (c .if1 .taken z)
-    ; fats-hold = λ z. absurd (c .if1 .taken z)
-    ; difats-hold = λ z. absurd (c .if1 .taken z)
-    ; frees-hold = λ z. absurd (c .if1 .taken z)
-    ; marks-hold = λ z. absurd (c .if1 .taken z) }
+    record {
+      number = l .fill-tables .ensures .number;
+      free = λ z. absurd (c .if1 .taken z);
+      fat-holds = λ z. absurd (c .if1 .taken z);
+      fats-hold = λ z. absurd (c .if1 .taken z);
+      difats-hold = λ z. absurd (c .if1 .taken z);
+      frees-hold = λ z. absurd (c .if1 .taken z);
+      marks-hold = λ z. absurd (c .if1 .taken z);
+    }
 
 fill32-requires : tie.Need-fill32-requires
 fill32-requires c κs = search needs
@@ -75,14 +76,15 @@ returns-2 c =
     let l = c .before .before .before .before .before .before .before .before .before .before .before .before .before .before .before .before .before .before .before .before in
     let z : l .fill-tables .result ≡ 0 = search needs in
     let frees = free-listed _ _ _ _ _ _ _ _ _ _ (l .fill-tables .ensures .fat-holds z) (c .before .before .before .before .before .before .before .fill32 .ensures ∙ ap (λ (k : ℕ). replicate k 0) (l .fill-tables .kept .1 .1 .1 .1 .1 .1 .1 .1 .0)) (c .before .before .list-free .ensures) in
-    record
-    { number = sym z ∙ l .fill-tables .ensures .number
-    ; free = λ _. frees .0
-    ; fat-holds = λ _. l .fill-tables .ensures .fat-holds z
-    ; fats-hold = λ _. l .fill-tables .ensures .fats-hold z
-    ; difats-hold = λ _. l .fill-tables .ensures .difats-hold z
-    ; frees-hold = λ _. frees .1
-    ; marks-hold = λ _. l .fill-tables .ensures .marks-hold z }
+    record {
+      number = sym z ∙ l .fill-tables .ensures .number;
+      free = λ _. frees .0;
+      fat-holds = λ _. l .fill-tables .ensures .fat-holds z;
+      fats-hold = λ _. l .fill-tables .ensures .fats-hold z;
+      difats-hold = λ _. l .fill-tables .ensures .difats-hold z;
+      frees-hold = λ _. frees .1;
+      marks-hold = λ _. l .fill-tables .ensures .marks-hold z;
+    }
 
 pub load-zeroed-spec : {M : Type 1} → statement M
 load-zeroed-spec =

@@ -1,3 +1,4 @@
+-- Row 14 is tested first, rows 15 to 17 by judging the FAT with its listed sectors marked, and row 18 last: at a return the rows before it are passed.
 use mathlib.Core.Path.{_≡_, sym, _∙_, ap}
 use Prim.Native.Nat.{ℕ}
 use mathlib.Core.Bool.{false, not}

@@ -1,3 +1,4 @@
+-- Rows 12 and 13 are tested here, the rows from 14 on by `judge_fat` on the FAT that was loaded. Right lists cover every entry of it.
 use mathlib.Core.Path.{_≡_, sym, _∙_, ap}
 use Prim.Native.Nat.{ℕ}
 use mathlib.Core.Bool.{true}
@@ -5,8 +6,6 @@ use native.Mathlib.Omega.{arith}
 use Rattle.alloc.specs.Loaded.{Covers}
 use borrow.Author.Tests.{not-true, not-false}
 use lib.ListN.{length, replicate}
-use Rattle.consts.specs.Consts.{maxRegular}
-use Rattle.alloc.specs.Lists.{allBelow}
 use Rattle.alloc.proofs.Marking.{below-kept}
 use Rattle.alloc.proofs.Opening.{lists-fats, lists-difats, lists-cover, tables-12, tables-13, tables-judged}
 use borrow.Author.Needs.{needs}
@@ -23,7 +22,8 @@ entry c = at-lists c .before .before .before .before .before .before .before .be
 right : (c : tie.Else1) → at-lists c .load-lists .result ≡ true
 right c = not-false _ (c .if1 .left)
 
-covers : (c : tie.Else1) → Covers (entry c .args .s) (length (entry c .args .fat .now)) (length (entry c .args .image .now)) (at-lists c .load-lists .last .1 .1 .1 .1 .0) (length (entry c .args .fat .now))
+covers : (c : tie.Else1)
+    → Covers (entry c .args .s) (length (entry c .args .fat .now)) (length (entry c .args .image .now)) (at-lists c .load-lists .last .1 .1 .1 .1 .0) (length (entry c .args .fat .now))
 covers c = lists-cover _ _ _ _ _ _ _ (at-lists c .load-lists .ensures) (right c) _ _ _ (entry c .pre .0) (at-lists c .load-lists .kept .1 .1 .1 .1 .0)
 
 load-lists-requires : tie.Need-load-lists-requires
@@ -65,7 +65,10 @@ judge-fat-requires : tie.Need-judge-fat-requires
 judge-fat-requires c κs =
     let e = c .before .before .before .before .before .before .before .before .before .before .before .before in
     let k = c .before .before .before .before .before .before .load-fat .kept in (
-      (below-kept _ _ _ (k .1 .1 .1 .1 .0) (lists-difats _ _ _ _ _ _ _ (at-lists e .load-lists .ensures) (right e)), below-kept _ _ _ (k .1 .1 .1 .1 .0) (lists-fats _ _ _ _ _ _ _ (at-lists e .load-lists .ensures) (right e))),
+      (
+        below-kept _ _ _ (k .1 .1 .1 .1 .0) (lists-difats _ _ _ _ _ _ _ (at-lists e .load-lists .ensures) (right e)),
+        below-kept _ _ _ (k .1 .1 .1 .1 .0) (lists-fats _ _ _ _ _ _ _ (at-lists e .load-lists .ensures) (right e)),
+      ),
       (omega (arith, k .1 .1 .1 .1 .0, entry e .pre .0 .few), entry e .pre .1 .1 ∙ ap (λ (m : ℕ). replicate m 0) (sym (k .1 .1 .1 .1 .0))),
     )
 
@@ -89,7 +92,8 @@ returns-3 c =
     let i = c .before .before .before .before .before .before .before .before .before .before .before .before .before .before in
     let e = i .before .before .before in
     let f = c .before .before .before .before .before .before .before .before .before .before .before in
-    tables-judged _ _ _ _ _ _ _ _ (at-lists e .load-lists .ensures) (right e) _ _ _ _ _ (i .before .tail-free .ensures) (not-false _ (i .if2 .left)) (f .load-fat .ensures) (f .load-fat .kept .1 .1 .1 .1 .0) (c .before .before .before .before .judge-fat .ensures)
+    tables-judged _ _ _ _ _ _ _ _ (at-lists e .load-lists .ensures) (right e) _ _ _ _ _ (i .before .tail-free .ensures) (not-false _ (i .if2 .left))
+    (f .load-fat .ensures) (f .load-fat .kept .1 .1 .1 .1 .0) (c .before .before .before .before .judge-fat .ensures)
 
 pub load-tables-spec : {M : Type 1} → statement M
 load-tables-spec =

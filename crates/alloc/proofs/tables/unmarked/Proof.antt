@@ -1,8 +1,8 @@
-use mathlib.Core.Path.{_≡_, sym, _∙_, ap}
-use mathlib.Core.Bool.{Bool, not}
+-- The marks matter only in strict, where the answer is that not both lists have theirs.
+use mathlib.Core.Path.{sym, _∙_, ap}
+use mathlib.Core.Bool.{not}
 use borrow.Author.Tests.{not-true, not-false}
-use Rattle.lists.proofs.Cases.{both-false-left}
-use Rattle.alloc.proofs.Marking.{both-of-true}
+use Rattle.lists.proofs.Cases.{both-false-left, both-of-true}
 use borrow.Author.Needs.{needs}
 use Rattle.alloc.proofs.tables.unmarked.Statement.{statement}
 use Rattle.alloc.proofs.tables.unmarked.Tie as tie

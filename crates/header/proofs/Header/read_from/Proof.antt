@@ -1,3 +1,4 @@
+-- Each test is the next row of the table of refusals: at a return the rows before it are passed and its own holds. Where all are passed the content is that of the bytes.
 use Prim.Native.Nat.{ℕ, _≤_}
 use mathlib.Core.Path.{_≡_, sym, _∙_, ap}
 use mathlib.Core.Bool.{true}
@@ -59,7 +60,9 @@ refused-requires-2 : tie.Need-refused-requires-2
 refused-requires-2 c κs = search needs
 
 returns-2 : tie.Need-returns-2
-returns-2 c = says-no _ _ Signature _ (c .refused2 .ensures) (omega arith) (gives-2 _ _ (c .before .before .before .if1 .left) (sym (c .before .before .signed .ensures) ∙ not-true _ (c .before .if2 .taken)))
+returns-2 c =
+    says-no _ _ Signature _ (c .refused2 .ensures) (omega arith)
+    (gives-2 _ _ (c .before .before .before .if1 .left) (sym (c .before .before .signed .ensures) ∙ not-true _ (c .before .if2 .taken)))
 
 judged-by-requires : tie.Need-judged-by-requires
 judged-by-requires c κs = search needs

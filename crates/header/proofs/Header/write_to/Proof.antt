@@ -1,3 +1,4 @@
+-- Each test is the next row of the table of refusals, as in reading. Where all are passed the three stores stand end to end and make the 512 bytes.
 use mathlib.Core.Path.{_≡_, sym, _∙_, ap}
 use Prim.Native.Nat.{ℕ}
 use lib.ListN.{length}
@@ -13,10 +14,15 @@ use Rattle.header.proofs.Header.write_to.Statement.{statement}
 use Rattle.header.proofs.Header.write_to.Tie as tie
 
 -- what the two looks at the header say
-counted : (c : tie.After-counts-dirs) → countsDirs Strict (majorOf (c .before .before .before .before .args .self .version)) (c .before .before .before .before .args .self .dirs) ≡ c .counts-dirs .result
-counted c = sym (c .counts-dirs .ensures ∙ ap (λ (k : ℕ). countsDirs Strict k (c .before .before .before .before .args .self .dirs)) (c .before .number .ensures))
+counted : (c : tie.After-counts-dirs)
+    → countsDirs Strict (majorOf (c .before .before .before .before .args .self .version)) (c .before .before .before .before .args .self .dirs) ≡ c .counts-dirs .result
+counted c =
+    sym (c .counts-dirs .ensures
+    ∙ ap (λ (k : ℕ). countsDirs Strict k (c .before .before .before .before .args .self .dirs)) (c .before .number .ensures))
 
-looked : (c : tie.After-unreadable) → unreadable (c .before .before .before .before .before .before .before .before .args .self .list) (c .before .before .before .before .before .before .before .before .args .self .difat) ≡ c .unreadable .result
+looked : (c : tie.After-unreadable)
+    → unreadable (c .before .before .before .before .before .before .before .before .args .self .list)
+    (c .before .before .before .before .before .before .before .before .args .self .difat) ≡ c .unreadable .result
 looked c = sym (c .unreadable .ensures)
 
 -- the places of the calls
@@ -82,8 +88,11 @@ returns-4 c =
     let u = at-looked c in
     let d = at-dirs (u .before) in
     let g = d .before .before .before .before .before in
-    says-yes _ _ _ (header-stored (g .args .self) _ _ _ _ (d .before .before .before .if1 .left) (entries-there (at-looked c .before)) (at-start c .put-start .ensures) (at-numbers c .put-numbers .ensures) (at-list c .put-list .ensures))
-    (gives-0 _ _ (d .before .before .before .if1 .left) (counted (d .before) ∙ d .if2 .left) (looked u ∙ c .before .before .before .before .before .before .before .before .before .before .before .before .before .if3 .left))
+    says-yes _ _ _
+    (header-stored (g .args .self) _ _ _ _ (d .before .before .before .if1 .left) (entries-there (at-looked c .before))
+    (at-start c .put-start .ensures) (at-numbers c .put-numbers .ensures) (at-list c .put-list .ensures))
+    (gives-0 _ _ (d .before .before .before .if1 .left) (counted (d .before) ∙ d .if2 .left)
+    (looked u ∙ c .before .before .before .before .before .before .before .before .before .before .before .before .before .if3 .left))
 
 pub write-to-spec : {M : Type 1} → statement M
 write-to-spec =

@@ -1,3 +1,4 @@
+-- Each arm of the match is one case of the definition.
 use borrow.Author.Tests.{ne-eqb}
 use Rattle.header.specs.Fields.{numberedOf}
 use Rattle.header.proofs.Version.from_number.Statement.{statement}

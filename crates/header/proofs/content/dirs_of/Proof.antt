@@ -1,3 +1,4 @@
+-- The test of the major version is the definition's own, on both sides.
 use borrow.Author.Tests.{eq-eqb, ne-eqb}
 use Rattle.header.specs.Read.{dirsOf}
 use Rattle.header.proofs.content.dirs_of.Statement.{statement}

@@ -1,3 +1,4 @@
+-- The test for FREE is the definition's own, on both sides.
 use borrow.Author.Tests.{eq-eqb, ne-eqb}
 use Rattle.header.specs.Read.{endIfFree}
 use Rattle.header.proofs.content.end_if_free.Statement.{statement}

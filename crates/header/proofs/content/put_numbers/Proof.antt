@@ -1,3 +1,4 @@
+-- Each of the nine stores begins where the one before it ends, so together they are one run of bytes.
 use mathlib.Core.Path.{refl}
 use Rattle.header.proofs.Writing.{numbers-stored}
 use native.Mathlib.Omega.{arith}

@@ -1,3 +1,4 @@
+-- Each of the eight stores begins where the one before it ends, so together they are one run of bytes from 0 on.
 use mathlib.Core.Path.{refl}
 use Rattle.header.proofs.Writing.{start-stored}
 use native.Mathlib.Omega.{arith}

@@ -1,3 +1,4 @@
+-- The invariant: the whole list is FREE exactly when the flag holds and the list from i on is FREE.
 use Prim.Native.Nat.{_≤_, _-_}
 use mathlib.Core.Path.{_≡_, _∙_, sym, refl}
 use mathlib.Core.Logic.{⊎-elim}
@@ -34,7 +35,13 @@ loop-less c = omega arith
 loop-again : tie.Need-loop-again Inv-loop μ-loop
 loop-again c = let l = c .before .before .before .loop in
     let xs = c .before .before .before .before .args .list .now in
-    (omega arith, ⊎-elim (λ w. flag-other xs (l .i) (l .free) (c .if1 .free) (c .before .before .loop-test .taken) (l .inv .1) (w .0 .taken) (w .1)) (λ w. flag-free xs (l .i) (l .free) (c .if1 .free) (c .before .before .loop-test .taken) (l .inv .1) (w .0 .left) (w .1)) (c .if1 .came))
+    let h = c .before .before .loop-test .taken in (
+      omega arith,
+      ⊎-elim
+          (λ w. flag-other xs (l .i) (l .free) (c .if1 .free) h (l .inv .1) (w .0 .taken) (w .1))
+          (λ w. flag-free xs (l .i) (l .free) (c .if1 .free) h (l .inv .1) (w .0 .left) (w .1))
+          (c .if1 .came),
+    )
 
 returns : tie.Need-returns Inv-loop μ-loop
 returns c =

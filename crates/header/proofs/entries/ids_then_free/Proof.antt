@@ -1,3 +1,4 @@
+-- The list past its leading ids is lent as a part, and looked at to its end.
 use Prim.Native.Nat.{_≤_}
 use mathlib.Core.Path.{_∙_}
 use native.Mathlib.Omega.{arith}

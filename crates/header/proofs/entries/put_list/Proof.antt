@@ -1,3 +1,4 @@
+-- The invariant: the buffer is as it was, with the bytes of the first i entries put over it from 76 on.
 use Prim.Native.Nat.{_≤_, _-_}
 use mathlib.Core.Path.{_≡_, refl, _∙_}
 use native.Mathlib.Omega.{arith}

@@ -1,13 +1,13 @@
+-- The invariant: the list holds the entries below i, and zeros from i on.
 use Prim.Native.Nat.{ℕ, _+_, _*_, _≤_, _-_}
 use Rattle.words.specs.Words.{le}
-use mathlib.Core.Path.{_≡_, refl, _∙_, ap}
+use mathlib.Core.Path.{_≡_, _∙_, ap}
 use mathlib.Core.List.{List, _++_, append-nil}
 use native.Mathlib.Omega.{arith}
-use lib.ListN.{length, drop, replicate, set}
+use lib.ListN.{drop, replicate, set}
 use Rattle.lists.specs.Lists.{tab}
 use Rattle.lists.proofs.Tab.{filled-none, filled-more}
 use Rattle.header.specs.Fields.{entryAt, listOf}
-use borrow.Author.Needs.{needs}
 use Rattle.header.proofs.entries.read_list.Statement.{statement}
 use Rattle.header.proofs.entries.read_list.Tie as tie
 
@@ -48,7 +48,12 @@ loop-again : tie.Need-loop-again Inv-loop μ-loop
 unfolding entryAt
 loop-again c =
     let l = c .before .before .loop in
-    (omega arith, l .inv .1, ap (λ (u : List ℕ). set u (l .i) (c .read32 .result)) (l .inv .2) ∙ filled-more _ _ _ _ (c .before .loop-test .taken) (c .read32 .ensures ∙ ap (λ (o : ℕ). le 4 (c .before .before .before .before .before .args .b .now) (o + 4 * l .i)) (l .inv .1)))
+    let b = c .before .before .before .before .before .args .b .now in (
+      omega arith,
+      l .inv .1,
+      ap (λ (u : List ℕ). set u (l .i) (c .read32 .result)) (l .inv .2)
+          ∙ filled-more _ _ _ _ (c .before .loop-test .taken) (c .read32 .ensures ∙ ap (λ (o : ℕ). le 4 b (o + 4 * l .i)) (l .inv .1)),
+    )
 
 returns : tie.Need-returns Inv-loop μ-loop
 unfolding listOf

@@ -1,3 +1,4 @@
+-- The two tests are the definition's, in its order.
 use mathlib.Core.Path.{sym, _∙_}
 use borrow.Author.Tests.{not-true, not-false}
 use Rattle.header.specs.Write.{unreadable}

@@ -1,3 +1,4 @@
+-- The field's bytes are lent as a part of the buffer; the eight bytes copied over it are the signature.
 use Rattle.header.proofs.Table.{signature-stored}
 use borrow.Author.Needs.{needs}
 use Rattle.header.proofs.fields.put_signature.Statement.{statement}

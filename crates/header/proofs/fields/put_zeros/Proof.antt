@@ -1,4 +1,4 @@
-use mathlib.Core.Path.{_∙_, sym, ap}
+-- The field's bytes are lent as a part of the buffer, filled with zeros and put back in their place.
 use native.Mathlib.Omega.{arith}
 use borrow.Author.Needs.{needs}
 use Rattle.header.proofs.Table.{field-ends, zeros-stored}
@@ -30,7 +30,8 @@ returns : tie.Need-returns
 returns c =
     let r = c .before .before .before .before .before .row in
     let g = c .before .before .before .before .before .before .before in
-    zeros-stored (g .args .buf .now) (c .before .before .fill .last .0) (g .args .place) (r .result .at) (r .result .width) (g .pre .1) (g .pre .0) (r .ensures .0) (r .ensures .1) (c .before .before .fill .ensures)
+    zeros-stored (g .args .buf .now) (c .before .before .fill .last .0) (g .args .place) (r .result .at) (r .result .width)
+    (g .pre .1) (g .pre .0) (r .ensures .0) (r .ensures .1) (c .before .before .fill .ensures)
 
 pub put-zeros-spec : {M : Type 1} → statement M
 put-zeros-spec =

@@ -1,3 +1,4 @@
+-- The part that is lent is the first eight bytes, since the table's row says 0 and 8.
 use mathlib.Core.Path.{_∙_, ap}
 use mathlib.Core.List.{List}
 use Prim.Native.Nat.{ℕ}

@@ -1,3 +1,4 @@
+-- The three tests are the definition's, in its order.
 use mathlib.Core.Path.{_≡_, sym, _∙_}
 use mathlib.Core.Bool.{true}
 use Rattle.header.specs.Fields.{isStrict}

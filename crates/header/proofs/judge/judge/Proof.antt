@@ -1,3 +1,4 @@
+-- Each test is the next row of the table: at a return the rows before it are passed and its own holds, and at the end all six are passed.
 use mathlib.Core.Path.{_≡_, sym, _∙_, ap}
 use mathlib.Core.List.{List}
 use Rattle.lists.specs.Rows.{Row}

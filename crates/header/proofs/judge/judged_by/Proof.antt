@@ -1,3 +1,4 @@
+-- Field by field: each number is the one that the definition reads at that place of the table.
 use Rattle.header.specs.Read.{fixedOf}
 use borrow.Author.Needs.{needs}
 use Rattle.header.proofs.judge.judged_by.Statement.{statement}

@@ -1,3 +1,4 @@
+-- The two tests are the definition's: 3 is known, and past it 4 alone.
 use borrow.Author.Tests.{eq-eqb, ne-eqb}
 use Rattle.header.specs.Read.{unknown}
 use Rattle.header.proofs.judge.unknown.Statement.{statement}
