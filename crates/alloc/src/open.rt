@@ -1,11 +1,9 @@
 // The opening of an image (document 01, "Opening an image").
-use crate::early::judge_early;
 use crate::judge::list_free;
 use crate::listed::ceil;
 use crate::load::past_header;
 use crate::tables::load_tables;
 use header::Header;
-use header::Validation;
 ghost use mathlib.Core.Path.{_≡_};
 ghost use Prim.Native.Nat.{_≤_};
 ghost use lib.ListN.{length, replicate};
