@@ -135,11 +135,14 @@ fn smallest_not_read_back() {
 /// The buffer of 511 bytes: both refuse, the Rust after filling it.
 #[test]
 fn short_buffer() {
-    let words = inputs::words_in(&inputs::good(4, 5));
-    let mut mine = [1; HEADER - 1];
-    let mut rusts = [1; HEADER - 1];
-    assert_eq!(abi::write_header(&words, &mut mine), 1);
-    assert!(!asked::write_header(&words, &mut rusts));
-    assert_eq!(mine, [1; HEADER - 1]);
-    assert_eq!(rusts, inputs::good(4, 5)[..HEADER - 1]);
+    let good = inputs::good(4, 5);
+    let words = inputs::words_in(&good);
+    for len in [1, HEADER - 1] {
+        let mut mine = vec![1; len];
+        let mut rusts = vec![1; len];
+        assert_eq!(abi::write_header(&words, &mut mine), 1);
+        assert!(!asked::write_header(&words, &mut rusts));
+        assert_eq!(mine, vec![1; len]);
+        assert_eq!(rusts, good[..len]);
+    }
 }

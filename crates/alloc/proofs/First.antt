@@ -1,7 +1,7 @@
 -- The first rows of the opening, 1 to 11, and what is known once they are passed. Assumes nothing.
-use Prim.Native.Nat.{ℕ, _+_, _-_, _*_, _/_, _%_, _≤_, _<_, min}
+use Prim.Native.Nat.{ℕ, _+_, _-_, _*_, _/_, _%_, _≤_, _<_}
 use mathlib.Core.Path.{_≡_, refl, sym, _∙_, ap}
-use mathlib.Core.Bool.{Bool, true, false, not}
+use mathlib.Core.Bool.{not}
 use mathlib.Core.List.{List, [], _∷_, _++_}
 use mathlib.Core.Logic.{⊎-elim, _≢_}
 use native.Mathlib.Nat.{div-add-mod', zero-mul}
@@ -9,8 +9,8 @@ use native.Mathlib.Omega.{arith}
 use borrow.Author.Tests.{lt-ltb, le-ltb, eq-eqb, ne-eqb}
 use lib.Dec.{eqb, ltb}
 use lib.ListN.{length}
-use Rattle.lists.specs.Lists.{choose, either}
-use Rattle.lists.specs.Rows.{Row, row, refusal, distinct, fresh}
+use Rattle.lists.specs.Lists.{either}
+use Rattle.lists.specs.Rows.{row, refusal, distinct, fresh}
 use Rattle.lists.proofs.Cases.{same-or, either-right}
 use Rattle.lists.proofs.Rows.{stop, pass, append-given, append-none}
 use Rattle.header.specs.Fields.{lengthOf}

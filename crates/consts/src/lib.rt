@@ -2,6 +2,7 @@
 ghost use mathlib.Core.Path.{_≡_};
 ghost use Prim.Native.Nat.{_+_, _≤_};
 ghost use lib.ListN.{length, drop};
+ghost use Rattle.consts.specs.Consts.{headerLen, dirEntryLen, headerDifat, miniLen};
 ghost use Rattle.consts.specs.Kinds.{kindOf};
 ghost use Rattle.consts.specs.Pretty.{itemAt};
 ghost use Rattle.consts.specs.Runs.{runOf, endOf};
@@ -51,6 +52,26 @@ pub const END_OF_CHAIN: u32 = 0xffff_fffe;
 
 // The entry of a sector that is in no chain.
 pub const FREE_SECTOR: u32 = 0xffff_ffff;
+
+// The header's and a directory entry's length in bytes, how many entries the header lists, a mini sector's length.
+pub struct Lengths {
+    pub header: usize,
+    pub entry: usize,
+    pub listed: usize,
+    pub mini: usize,
+}
+
+// The lengths above, each equal to its definition: the constants themselves have no contract.
+pub fn format_lengths() -> Lengths
+    ensures { λ r. ⌜ r ≡ record { header = headerLen; entry = dirEntryLen; listed = headerDifat; mini = miniLen } ⌝ }
+{
+    Lengths {
+        header: HEADER_LEN,
+        entry: DIR_ENTRY_LEN,
+        listed: NUM_DIFAT_ENTRIES_IN_HEADER,
+        mini: MINI_SECTOR_LEN,
+    }
+}
 
 // What an entry of the FAT can be.
 pub enum Kind {

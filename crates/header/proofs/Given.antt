@@ -6,12 +6,13 @@ use mathlib.Core.List.{List, [], _∷_}
 use mathlib.Core.Logic.{_⊎_, inl, inr, ⊎-elim, _≢_, _↔_}
 use native.Mathlib.Omega.{arith}
 use borrow.Author.Tests.{ltb-true, lt-ltb, leb-true, leb-false, eqb-true, eqb-false, eq-eqb, not-true}
-use lib.Dec.{eqb, leb, ltb}
+use lib.Dec.{eqb, leb}
 use lib.ListN.{length, getD, drop, length-drop}
 use lib.Seq.{getD-drop}
-use Rattle.lists.specs.Lists.{choose, both, either, sameList, Below}
-use Rattle.lists.specs.Rows.{Row, refusal}
-use Rattle.lists.proofs.Cases.{below-or, same-or, true-or, not-both, both-true, both-left, both-right, either-cases, unlike}
+use Rattle.lists.specs.Lists.{choose, both, sameList, Below}
+use Rattle.lists.specs.Rows.{testOf, ascend, Explained, Judged}
+use Rattle.lists.proofs.Exactly.{_▸_, exactly, accepted}
+use Rattle.lists.proofs.Cases.{below-or, same-or, true-or, not-both, both-true, both-left, both-right, either-cases, either-right, unlike}
 use Rattle.lists.proofs.Splice.{sameList-refl, sameList-false}
 use Rattle.lists.proofs.Tab.{length-tab, getD-tab}
 use Rattle.words.proofs.Laws.{le-below}
@@ -29,85 +30,6 @@ use Rattle.header.specs.declared.ReadVerdict.{ReadVerdict}
 use Rattle.header.specs.declared.Read.{Read}
 use Rattle.header.specs.declared.WriteVerdict.{WriteVerdict}
 use Rattle.header.proofs.Listed.{ids-within}
-
--- the test that stands in a table beside number k
-unfoldable pub testOf : List Row → ℕ → Bool
-testOf [] k = false
-testOf (r ∷ rs) k = choose (eqb (r .no) k) (r .holds) (testOf rs k)
-
--- the numbers of a table ascend, from above low
-unfoldable pub ascend : ℕ → List Row → Bool
-ascend low [] = true
-ascend low (r ∷ rs) = both (ltb low (r .no)) (ascend (r .no) rs)
-
--- each test, where it is the first that holds, gives the cause of its number
-abbrev pub Explained : (ℕ → Type 0) → List Row → Type 0
-Explained C [] = Unit
-Explained C (r ∷ rs) = (r .holds ≡ true → C (r .no)) × (r .holds ≡ false → Explained C rs)
-
--- one row of an explanation: what its test gives where it holds, and the rows after it where it fails
-infixr 20 _▸_
-_▸_ : {A B : Type 0} → A → B → A × B
-a ▸ b = (a, b)
-
--- a number that is given has its cause
-explained : (C : ℕ → Type 0) (rs : List Row) → Explained C rs → refusal rs ≢ 0 → C (refusal rs)
-unfolding refusal
-explained C [] e n = absurd (n refl)
-explained C (r ∷ rs) e n = at (r .holds) (e .0) (e .1) (explained C rs) n
-  where
-    at : (t : Bool) → (t ≡ true → C (r .no)) → (t ≡ false → Explained C rs) → (Explained C rs → refusal rs ≢ 0 → C (refusal rs))
-        → choose t (r .no) (refusal rs) ≢ 0 → C (choose t (r .no) (refusal rs))
-    at true here later rest n = here refl
-    at false here later rest n = rest (later refl) n
-
--- where numbers ascend, the number given is the least whose test holds
-least : (low : ℕ) (rs : List Row) (k : ℕ) → ascend low rs ≡ true → testOf rs k ≡ true → (low < refusal rs) × (refusal rs ≤ k)
-unfolding refusal testOf ascend
-least low [] k a t = absurd (not-both t refl)
-least low (r ∷ rs) k a t =
-    let up : low < r .no = ltb-true low (r .no) (both-left _ (ascend (r .no) rs) a) in
-    let rest : testOf rs k ≡ true → (r .no < refusal rs) × (refusal rs ≤ k) = least (r .no) rs k (both-right (ltb low (r .no)) _ a) in
-    at (eqb (r .no) k) (r .holds) refl t up rest
-  where
-    at : (e h : Bool) → eqb (r .no) k ≡ e → choose e h (testOf rs k) ≡ true → low < r .no → (testOf rs k ≡ true → (r .no < refusal rs) × (refusal rs ≤ k))
-        → (low < choose h (r .no) (refusal rs)) × (choose h (r .no) (refusal rs) ≤ k)
-    at true true e t up rest = (up, omega (arith, eqb-true (r .no) k e))
-    at true false e t up rest = absurd (not-both t refl)
-    at false true e t up rest = omega (arith, rest t)
-    at false false e t up rest = omega (arith, rest t)
-
--- a table whose numbers ascend judges by the causes C: a cause makes its test hold, and the first test that holds gives its cause
-pub record Judged (rs : List Row) (C : ℕ → Type 0) : Type 0 where
-  pub ascends : ascend 0 rs ≡ true
-  pub tested : (k : ℕ) → C k → testOf rs k ≡ true
-  pub told : Explained C rs
-
-module _ {rs : List Row} {C : ℕ → Type 0} (j : Judged rs C) where
-  -- a number is given exactly when its cause holds and none with a smaller number does
-  pub exactly : (k : ℕ) → 1 ≤ k → (refusal rs ≡ k) ↔ (C k × ((i : ℕ) → i < k → C i → ⊥))
-  exactly k h = (there, back)
-    where
-      above : (i : ℕ) → C i → (0 < refusal rs) × (refusal rs ≤ i)
-      above i c = least 0 rs i (j .ascends) (j .tested i c)
-
-      there : refusal rs ≡ k → C k × ((i : ℕ) → i < k → C i → ⊥)
-      there e = (rw (← e) (explained C rs (j .told) (omega arith)), λ i l c. omega (arith, above i c))
-
-      back : C k × ((i : ℕ) → i < k → C i → ⊥) → refusal rs ≡ k
-      back p =
-          let a : (0 < refusal rs) × (refusal rs ≤ k) = above k (p .0) in
-          ⊎-elim (λ (l : refusal rs < k). absurd (p .1 (refusal rs) l (explained C rs (j .told) (omega arith)))) (λ (g : k ≤ refusal rs). omega arith) (below-or (refusal rs) k)
-
-  -- none is given exactly when no cause holds
-  pub accepted : (refusal rs ≡ 0) ↔ ((i : ℕ) → C i → ⊥)
-  accepted = (none, all)
-    where
-      none : refusal rs ≡ 0 → (i : ℕ) → C i → ⊥
-      none e i c = omega (arith, least 0 rs i (j .ascends) (j .tested i c))
-
-      all : ((i : ℕ) → C i → ⊥) → refusal rs ≡ 0
-      all n = ⊎-elim (λ (z : refusal rs ≡ 0). z) (λ (g : refusal rs ≢ 0). absurd (n (refusal rs) (explained C rs (j .told) g))) (same-or (refusal rs) 0)
 
 -- the ids that a list begins with are sector numbers
 ids-low : (xs : List ℕ) (i : ℕ) → i < idsIn xs → getD xs i 0 ≤ maxRegular
@@ -219,11 +141,6 @@ differ a b t = eqb-false a b (not-true (eqb a b) t)
 -- the test that two lists differ says so
 differ-lists : (xs ys : List ℕ) → not (sameList xs ys) ≡ true → xs ≢ ys
 differ-lists xs ys t e = let same : sameList xs ys ≡ true = rw e (sameList-refl ys) in not-both same (not-true (sameList xs ys) t)
-
--- the second of two tests that holds
-either-right : (a b : Bool) → b ≡ true → either a b ≡ true
-either-right true b t = refl
-either-right false b t = t
 
 -- an unknown major version is neither 3 nor 4
 unknown-told : (n : ℕ) → unknown n ≡ true → (n ≢ 3) × (n ≢ 4)

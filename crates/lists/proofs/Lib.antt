@@ -1,4 +1,5 @@
 pub mod Cases
+pub mod Exactly
 pub mod Rows
 pub mod Splice
 pub mod Tab

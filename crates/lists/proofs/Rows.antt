@@ -1,4 +1,4 @@
--- A number is given exactly when its row's test holds and no test before it does. Assumes nothing.
+-- The row of a number that is given holds and none before it does; tables judged row by row, and one after the other. Assumes nothing.
 use Prim.Native.Nat.{ℕ, zero, suc, _≤_, _<_}
 use mathlib.Core.Path.{_≡_, refl, sym, _∙_, ap}
 use mathlib.Core.Bool.{Bool, true, false, not}
@@ -55,14 +55,6 @@ pub record First (rs : List Row) (i : ℕ) : Type 0 where
   pub here : getD rs i noRow .holds ≡ true
   pub none : (j : ℕ) → j < i → getD rs j noRow .holds ≡ false
 
-pub first-given : (rs : List Row) (i : ℕ) → First rs i → refusal rs ≡ getD rs i noRow .no
-unfolding refusal
-first-given [] i f = absurd (not-both (f .here) refl)
-first-given (r ∷ rs) zero f = let t : r .holds ≡ true = f .here in rw t
-first-given (r ∷ rs) (suc i) f =
-    let t : r .holds ≡ false = f .none 0 (omega arith) in
-    rw t (first-given rs i (record { here = f .here; none = λ j h. f .none (suc j) (omega arith) }))
-
 pub given-first : (rs : List Row) (i : ℕ) → distinct rs ≡ true → i < length rs → refusal rs ≡ getD rs i noRow .no → First rs i
 unfolding refusal distinct
 given-first [] i d l e = absurd (omega arith)
@@ -85,12 +77,7 @@ given-first (r ∷ rs) (suc i) d l e =
         before zero h = t
         before (suc j) h = f .none j (omega arith)
 
--- none is given exactly when no test holds
-pub none-given : (rs : List Row) → ((j : ℕ) → j < length rs → getD rs j noRow .holds ≡ false) → refusal rs ≡ 0
-unfolding refusal
-none-given [] h = refl
-none-given (r ∷ rs) h = let t : r .holds ≡ false = h 0 (omega arith) in rw t (none-given rs (λ j l. h (suc j) (omega arith)))
-
+-- where none is given no test holds
 pub given-none : (rs : List Row) → distinct rs ≡ true → refusal rs ≡ 0 → (j : ℕ) → j < length rs → getD rs j noRow .holds ≡ false
 unfolding refusal distinct
 given-none [] d e j l = absurd (omega arith)

@@ -9,9 +9,9 @@ use native.Mathlib.Nat.{add-zero, zero-add, add-assoc, pow-suc}
 use native.Mathlib.Numerals.{add-one}
 use lib.ListN.{length, getD, set, take}
 use lib.Seq.{ext-getD, length-take-le, take-suc}
-use Rattle.lists.specs.Lists.{splice, part, sameList, Below}
+use Rattle.lists.specs.Lists.{splice, sameList, Below}
 use Rattle.lists.proofs.Cases.{below-or, not-both}
-use Rattle.lists.proofs.Splice.{length-splice, splice-inside, splice-below, splice-above, splice-nil, splice-append, set-splice, getD-part, sameList-refl, sameList-false}
+use Rattle.lists.proofs.Splice.{length-splice, splice-inside, splice-below, splice-above, splice-nil, splice-append, set-splice, sameList-refl, sameList-false}
 use Rattle.words.specs.Words.{le, digits}
 
 -- a number is what its bytes are, wherever they stand
@@ -77,10 +77,6 @@ le-put k b o v fits h =
     ap (λ (q : ℕ). le k (splice b o (digits k v)) q) (sym (add-zero o))
     ∙ le-inside k b o (digits k v) 0 (omega arith) (omega arith)
     ∙ le-digits k v h
-
--- a number in a part
-pub le-part : (k : ℕ) (b : List ℕ) (a n o : ℕ) → o + k ≤ n → le k (part b a n) o ≡ le k b (a + o)
-le-part k b a n o h = le-ext k (part b a n) b o (a + o) (λ i hi. rw (add-assoc a o i) (getD-part b a n (o + i) (omega arith)))
 
 -- one store more at the end of a run
 pub put-more : (b : List ℕ) (o v k : ℕ) (xs : List ℕ) → length xs ≡ k → o + k < length b → set (splice b o xs) (o + k) v ≡ splice b o (xs ++ (v ∷ []))

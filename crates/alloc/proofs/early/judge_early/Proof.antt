@@ -1,14 +1,13 @@
 -- The causes are tested in the order of their numbers: at a return those before it are passed, by the laws of First.
-use Prim.Native.Nat.{ℕ, _-_, _/_, _%_, _≤_, _<_}
+use Prim.Native.Nat.{ℕ, _-_, _/_, _%_, _≤_}
 use mathlib.Core.Path.{_≡_, sym, _∙_, ap}
 use mathlib.Core.List.{List}
 use native.Mathlib.Omega.{arith}
 use lib.ListN.{length}
-use Rattle.lists.specs.Rows.{refusal}
 use Rattle.header.specs.Fields.{lengthOf}
 use Rattle.header.specs.Read.{readNo, headerOf}
 use Rattle.header.specs.declared.Header.{Header}
-use Rattle.alloc.specs.Lists.{most, sectorsIn, roomOf}
+use Rattle.alloc.specs.Lists.{sectorsIn, roomOf}
 use Rattle.alloc.proofs.First.{early-below, early-above, early-header, early-odd, early-many, early-short, early-passed, early-no, read-header, length-some, one-whole}
 use borrow.Author.Needs.{needs}
 use Rattle.alloc.proofs.early.judge_early.Statement.{statement}
