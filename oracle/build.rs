@@ -1,10 +1,11 @@
 //! Finds the two things that are compared: the four files of cfb 0.15.0 and the archive of the library.
 //!
-//! RASUVELK_CFB names a folder that holds the four files, RASUVELK_ARCHIVE one that holds libexport.a.
+//! RASUVELK_CFB names the folder that holds the four files, or the crate's `src` with them under `internal`;
+//! RASUVELK_ARCHIVE names the one that holds libexport.a.
 
 use std::env;
 use std::fs;
-use std::path::PathBuf;
+use std::path::{Path, PathBuf};
 
 const FILES: [&str; 4] = ["consts", "header", "alloc", "chain"];
 
@@ -26,23 +27,41 @@ fn folder(variable: &str, usual: &str) -> PathBuf {
     }
 }
 
+/// The first of the four files that a folder does not have.
+fn missing(from: &Path) -> Option<PathBuf> {
+    let mut files = FILES.iter().map(|name| from.join(format!("{name}.rs")));
+    files.find(|file| {
+        println!("cargo::rerun-if-changed={}", file.display());
+        !file.is_file()
+    })
+}
+
+/// The folder with all four files. Without the variable, or with an empty one, there may be none; a variable that
+/// names a folder without them is a mistake, and stops the build.
+fn source() -> Option<PathBuf> {
+    let from = folder("RASUVELK_CFB", "../../shared/docs/src/src/internal");
+    if from.as_os_str().is_empty() {
+        return None;
+    }
+    let Some(file) = missing(&from) else {
+        return Some(from);
+    };
+    env::var_os("RASUVELK_CFB")?;
+    let below = from.join("internal");
+    if let Some(other) = missing(&below) {
+        panic!("RASUVELK_CFB names {}, but there is no {} and no {}", from.display(), file.display(), other.display());
+    }
+    Some(below)
+}
+
 /// Writes the module list of the four files, and sets `oracle` where all of them are there.
 fn name_the_files() {
-    let from = folder("RASUVELK_CFB", "../../shared/docs/src/src/internal");
     let mut list = String::new();
-    let mut found = 0;
-    for name in FILES {
-        let file = from.join(format!("{name}.rs"));
-        println!("cargo::rerun-if-changed={}", file.display());
-        if file.is_file() {
-            found += 1;
-            let path = file.canonicalize().unwrap();
+    if let Some(from) = source() {
+        for name in FILES {
+            let path = from.join(format!("{name}.rs")).canonicalize().unwrap();
             list.push_str(&format!("#[path = {path:?}]\npub mod {name};\n"));
         }
-    }
-    if found < FILES.len() {
-        list.clear();
-    } else {
         println!("cargo::rustc-cfg=oracle");
     }
     let out = PathBuf::from(env::var_os("OUT_DIR").unwrap());
