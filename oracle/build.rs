@@ -1,10 +1,11 @@
 //! Finds the two things that are compared: the four files of cfb 0.15.0 and the archive of the library.
 //!
-//! RASUVELK_CFB names a folder that holds the four files, RASUVELK_ARCHIVE one that holds libexport.a.
+//! RASUVELK_CFB names the crate's folder, its `src`, or the folder `internal` with the four files; RASUVELK_ARCHIVE names
+//! the one that holds libexport.a.
 
 use std::env;
 use std::fs;
-use std::path::PathBuf;
+use std::path::{Path, PathBuf};
 
 const FILES: [&str; 4] = ["consts", "header", "alloc", "chain"];
 
@@ -26,23 +27,39 @@ fn folder(variable: &str, usual: &str) -> PathBuf {
     }
 }
 
-/// Writes the module list of the four files, and sets `oracle` where all of them are there.
-fn name_the_files() {
-    let from = folder("RASUVELK_CFB", "../../shared/docs/src/src/internal");
-    let mut list = String::new();
-    let mut found = 0;
-    for name in FILES {
+/// Whether a folder has all four files.
+fn has_all(from: &Path) -> bool {
+    FILES.iter().all(|name| {
         let file = from.join(format!("{name}.rs"));
         println!("cargo::rerun-if-changed={}", file.display());
-        if file.is_file() {
-            found += 1;
-            let path = file.canonicalize().unwrap();
+        file.is_file()
+    })
+}
+
+/// The folder with all four files. Without the variable, or with an empty one, there may be none; a variable that
+/// names a folder without them is a mistake, and stops the build.
+fn source() -> Option<PathBuf> {
+    let named = env::var_os("RASUVELK_CFB");
+    let from = folder("RASUVELK_CFB", "../../shared/docs/src");
+    if from.as_os_str().is_empty() {
+        return None;
+    }
+    let mut places = ["", "internal", "src/internal"].map(|below| from.join(below)).into_iter();
+    let found = places.find(|place| has_all(place));
+    if found.is_none() && named.is_some() {
+        panic!("RASUVELK_CFB names {}, where {FILES:?} are not", from.display());
+    }
+    found
+}
+
+/// Writes the module list of the four files, and sets `oracle` where all of them are there.
+fn name_the_files() {
+    let mut list = String::new();
+    if let Some(from) = source() {
+        for name in FILES {
+            let path = from.join(format!("{name}.rs")).canonicalize().unwrap();
             list.push_str(&format!("#[path = {path:?}]\npub mod {name};\n"));
         }
-    }
-    if found < FILES.len() {
-        list.clear();
-    } else {
         println!("cargo::rustc-cfg=oracle");
     }
     let out = PathBuf::from(env::var_os("OUT_DIR").unwrap());

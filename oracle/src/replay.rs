@@ -224,3 +224,8 @@ pub fn records() -> Vec<Record> {
     let random = &mut Random::fixed("replay");
     [reads(random), writes(random), lists(random)].concat()
 }
+
+/// The whole list, as the file of the program `replay` holds it.
+pub fn file() -> Vec<u8> {
+    records().concat()
+}

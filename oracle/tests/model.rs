@@ -1,4 +1,6 @@
-//! The archive against the model, on everything that is also compared with the Rust, with no Rust at hand.
+//! The archive against the model, with no Rust at hand, on the kinds of input that are also compared with the Rust.
+//!
+//! The fixed inputs are the same as there. The random ones are as many, but others: each test has a seed of its own.
 
 use oracle::inputs;
 use oracle::random::Random;

@@ -77,3 +77,12 @@ fn every_record() {
 fn the_same_again() {
     assert_eq!(replay::records(), replay::records());
 }
+
+/// The file that the program `replay` reads is the list that `scripts/make-replay-list` would write now.
+#[test]
+fn the_file_is_the_list() {
+    let path = concat!(env!("CARGO_MANIFEST_DIR"), "/../crates/replay/stdin");
+    let (file, list) = (std::fs::read(path).unwrap(), replay::file());
+    assert_eq!(file.len(), list.len());
+    assert_eq!(file.iter().zip(&list).position(|(one, other)| one != other), None, "the first byte that differs");
+}

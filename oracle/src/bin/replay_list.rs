@@ -8,7 +8,7 @@ fn main() -> ExitCode {
         eprintln!("usage: replay_list FILE");
         return ExitCode::from(2);
     };
-    if let Err(error) = std::fs::write(&path, oracle::replay::records().concat()) {
+    if let Err(error) = std::fs::write(&path, oracle::replay::file()) {
         eprintln!("replay_list: {}: {error}", path.display());
         return ExitCode::FAILURE;
     }
