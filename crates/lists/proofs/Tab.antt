@@ -31,17 +31,17 @@ pub getD-tab : (f : ℕ → ℕ) (n i d : ℕ) → i < n → getD (tab f n) i d 
 unfolding tab
 getD-tab f n i d h = getD-tabFrom f 0 n i d h ∙ rw zero-add
 
--- n numbers with f i at each i are the table
+-- a list is a table if it has the table's length and values
 pub is-tab : (l : List ℕ) (f : ℕ → ℕ) (n : ℕ) → length l ≡ n → ((i : ℕ) → i < n → getD l i 0 ≡ f i) → l ≡ tab f n
 is-tab l f n e h =
     ext-getD 0 l (tab f n) (e ∙ sym (length-tab f n))
     (λ i hi. let low : i < n = omega arith in h i low ∙ sym (getD-tab f n i 0 low))
 
--- two functions that agree below n have one table
+-- the table depends on f below n alone
 pub tab-ext : (f g : ℕ → ℕ) (n : ℕ) → ((i : ℕ) → i < n → f i ≡ g i) → tab f n ≡ tab g n
 tab-ext f g n h = is-tab (tab f n) g n (length-tab f n) (λ i hi. getD-tab f n i 0 hi ∙ h i hi)
 
--- two functions that agree below n but at j: a store at j takes one table to the other
+-- where f and g agree but at j, a store at j makes g's table f's
 pub tab-set : (f g : ℕ → ℕ) (n j : ℕ) → j < n → ((i : ℕ) → i < n → i ≢ j → f i ≡ g i) → tab f n ≡ set (tab g n) j (f j)
 tab-set f g n j hj h =
     sym (is-tab (set (tab g n) j (f j)) f n (length-set (tab g n) j (f j) ∙ length-tab g n)
@@ -57,12 +57,12 @@ tabFrom-suc f k (suc n) =
     ap (λ (l : List ℕ). f k ∷ l)
     (tabFrom-suc f (suc k) n ∙ ap (λ (x : ℕ). tabFrom f (suc k) n ++ (f x ∷ [])) (suc-add k n ∙ sym (add-suc k n)))
 
--- one value more
+-- the last value of a table
 pub tab-suc : (f : ℕ → ℕ) (n : ℕ) → tab f (suc n) ≡ tab f n ++ (f n ∷ [])
 unfolding tab
 tab-suc f n = tabFrom-suc f 0 n ∙ rw zero-add
 
--- a loop that fills a list from the front: nothing filled yet, a turn, the length
+-- filling d from its front with f's values: before the first turn, after one more, and the length all the while
 pub filled-none : (f : ℕ → ℕ) (d : List ℕ) → d ≡ tab f 0 ++ drop 0 d
 unfolding tab tabFrom
 filled-none f d = refl
