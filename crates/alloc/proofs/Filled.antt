@@ -13,7 +13,8 @@ use Rattle.alloc.specs.Judge.{forgivenFat, marksOf, freesOf}
 use Rattle.alloc.specs.Loaded.{Counted}
 use Rattle.alloc.specs.Judged.{TablesLoaded, Listed}
 use Rattle.alloc.specs.Opening.{openFat}
-use Rattle.alloc.specs.Opened.{padded, Zeroed, TablesFilled}
+use Rattle.alloc.specs.Opened.{padded, Zeroed, TablesFilled, AllFilled, Lent}
+use Rattle.alloc.specs.declared.open.Filled.{Filled}
 
 -- the front and the rest of a list of zeros
 pub zero-front : (xs : List ℕ) (n : ℕ) → xs ≡ replicate (length xs) 0 → n ≤ length xs → take n xs ≡ replicate n 0
@@ -96,3 +97,60 @@ free-listed S img h n a e r fat zeros frees ef ez l =
           ∙ ap (λ (x : List ℕ). freesOf n (openFat S img h n) ++ x)
           (zero-rest zeros r (ez ∙ ap (λ (k : ℕ). replicate k 0) (sym zl)) ∙ ap (λ (k : ℕ). replicate (k - r) 0) zl ∙ ap (λ (k : ℕ). replicate (e - k) 0) number),
     )
+
+-- a list that is a count of zeros has that length
+pub zeros-length : (xs : List ℕ) (a : ℕ) → xs ≡ replicate a 0 → length xs ≡ a
+zeros-length xs a e = ap length e ∙ length-replicate {A = ℕ} a 0
+
+zeros-own : (xs : List ℕ) (a : ℕ) → xs ≡ replicate a 0 → xs ≡ replicate (length xs) 0
+zeros-own xs a e = e ∙ ap (λ (k : ℕ). replicate k 0) (sym (zeros-length xs a e))
+
+longer : (n a : ℕ) (xs : List ℕ) → n ≤ a → xs ≡ replicate a 0 → n ≤ length xs
+longer n a xs h e = omega (arith, zeros-length xs a e)
+
+-- lent tables that were made zero
+pub lent-zeroed : (S n len a b c e g k : ℕ) (fat fats difats marks : List ℕ) → Lent S n len a b c e g → fat ≡ replicate a 0 → fats ≡ replicate b 0 → difats ≡ replicate c 0 → k ≡ e → marks ≡ replicate g 0
+    → Zeroed S n len fat fats difats k marks
+lent-zeroed S n len a b c e g k fat fats difats marks l z1 z2 z3 z4 z5 =
+    record {
+      holds = l .holds;
+      short = l .short;
+      few = l .few;
+      fat-zero = zeros-own fat a z1;
+      fats-zero = zeros-own fats b z2;
+      difats-zero = zeros-own difats c z3;
+      marks-zero = zeros-own marks g z5;
+      fat-long = longer n a fat (l .fat-long) z1;
+      fats-long = longer n b fats (l .fats-long) z2;
+      difats-long = longer n c difats (l .difats-long) z3;
+      scratch-long = omega (arith, l .frees-long);
+      marks-long = longer n g marks (l .marks-long) z5;
+    }
+
+-- what was loaded stays so when the lengths are had as other numbers
+pub filled-same : (strict : Bool) (S : ℕ) (img : List ℕ) (h : Header) (n a b c e g a' b' c' e' g' : ℕ) (r : Filled) (fat fats difats frees marks : List ℕ)
+    → a' ≡ a → b' ≡ b → c' ≡ c → e' ≡ e → g' ≡ g → AllFilled strict S img h n a' b' c' e' g' r fat fats difats frees marks → AllFilled strict S img h n a b c e g r fat fats difats frees marks
+filled-same strict S img h n a b c e g a' b' c' e' g' r fat fats difats frees marks ea eb ec ee eg f =
+    record {
+      number = f .number;
+      free = f .free;
+      fat-holds = λ z. f .fat-holds z ∙ ap (padded _) ea;
+      fats-hold = λ z. f .fats-hold z ∙ ap (padded _) eb;
+      difats-hold = λ z. f .difats-hold z ∙ ap (padded _) ec;
+      frees-hold = λ z. f .frees-hold z ∙ ap (padded _) ee;
+      marks-hold = λ z. f .marks-hold z ∙ ap (padded _) eg;
+    }
+
+-- a refused loading says its number, whatever the tables hold
+pub refused-filled : (strict : Bool) (S : ℕ) (img : List ℕ) (h : Header) (n a b c e g a' b' c' e' g' : ℕ) (r : Filled) (fat fats difats frees marks fat' fats' difats' frees' marks' : List ℕ)
+    → (r .no ≡ 0 → ⊥) → AllFilled strict S img h n a' b' c' e' g' r fat' fats' difats' frees' marks' → AllFilled strict S img h n a b c e g r fat fats difats frees marks
+refused-filled strict S img h n a b c e g a' b' c' e' g' r fat fats difats frees marks fat' fats' difats' frees' marks' z f =
+    record {
+      number = f .number;
+      free = f .free;
+      fat-holds = λ q. absurd (z q);
+      fats-hold = λ q. absurd (z q);
+      difats-hold = λ q. absurd (z q);
+      frees-hold = λ q. absurd (z q);
+      marks-hold = λ q. absurd (z q);
+    }

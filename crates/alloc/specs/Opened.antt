@@ -48,3 +48,23 @@ pub record AllFilled (strict : Bool) (S : ℕ) (img : List ℕ) (h : Header) (n 
   pub difats-hold : r .no ≡ 0 → difats ≡ padded (difatsIn S img h n) c
   pub frees-hold : r .no ≡ 0 → frees ≡ padded (freesOf n (openFat S img h n)) e
   pub marks-hold : r .no ≡ 0 → marks ≡ padded (marksOf n (openFat S img h n)) g
+
+-- lent tables that are long enough for n sectors of S bytes, by their lengths
+pub record Lent (S n len a b c e g : ℕ) : Type 0 where
+  pub holds : Holds S n len
+  pub short : S ≤ 65536
+  pub few : n ≤ most
+  pub fat-long : n ≤ a
+  pub fats-long : n ≤ b
+  pub difats-long : n ≤ c
+  pub frees-long : n ≤ e
+  pub marks-long : n ≤ g
+
+-- every table is loaded, or every table is zero
+pub record AllLoaded (strict : Bool) (S : ℕ) (img : List ℕ) (h : Header) (n a b c e g : ℕ) (r : Filled) (fat fats difats frees marks : List ℕ) : Type 0 where
+  pub filled : AllFilled strict S img h n a b c e g r fat fats difats frees marks
+  pub fat-zero : (r .no ≡ 0 → ⊥) → fat ≡ replicate a 0
+  pub fats-zero : (r .no ≡ 0 → ⊥) → fats ≡ replicate b 0
+  pub difats-zero : (r .no ≡ 0 → ⊥) → difats ≡ replicate c 0
+  pub frees-zero : (r .no ≡ 0 → ⊥) → frees ≡ replicate e 0
+  pub marks-zero : (r .no ≡ 0 → ⊥) → marks ≡ replicate g 0

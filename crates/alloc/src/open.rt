@@ -7,7 +7,7 @@ use header::Header;
 ghost use mathlib.Core.Path.{_≡_};
 ghost use Prim.Native.Nat.{_≤_};
 ghost use lib.ListN.{length, replicate};
-ghost use Rattle.alloc.specs.Opened.{AllFilled, Zeroed, TablesFilled};
+ghost use Rattle.alloc.specs.Opened.{AllFilled, AllLoaded, Lent, Zeroed, TablesFilled};
 
 // Makes every lent table zero.
 pub(crate) fn clear(
@@ -86,4 +86,29 @@ pub(crate) fn load_zeroed(
     words::fill32(frees, 0);
     let free = list_free(&fat[..n], frees);
     Filled { no: 0, free }
+}
+
+// Loads every table of n sectors into lent ones, whatever they hold: 0, or 12 to 18 and then every table is zero.
+pub(crate) fn load_all(
+    image: &[u8],
+    s: usize,
+    n: usize,
+    h: Header,
+    strict: bool,
+    fat: &mut [u32],
+    fats: &mut [u32],
+    difats: &mut [u32],
+    frees: &mut [u32],
+    marks: &mut [u8],
+) -> Filled
+    requires { ⌜ Lent s n (length (now image)) (length (now fat)) (length (now fats)) (length (now difats)) (length (now frees)) (length (now marks)) ⌝ }
+    ensures { λ r. ⌜ AllLoaded strict s (now (image .entry)) h n (length (now (fat .entry))) (length (now (fats .entry))) (length (now (difats .entry))) (length (now (frees .entry))) (length (now (marks .entry))) r (now (fat .exit)) (now (fats .exit)) (now (difats .exit)) (now (frees .exit)) (now (marks .exit)) ⌝ }
+{
+    clear(fat, fats, difats, frees, marks);
+    let filled = load_zeroed(image, s, n, h, strict, fat, fats, difats, frees, marks);
+    let no = filled.no;
+    if no != 0 {
+        clear(fat, fats, difats, frees, marks);
+    }
+    filled
 }
