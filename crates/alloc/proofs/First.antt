@@ -1,18 +1,18 @@
 -- The first rows of the opening, 1 to 11, and what is known once they are passed. Assumes nothing.
-use Prim.Native.Nat.{ℕ, _+_, _-_, _*_, _/_, _%_, _≤_, _<_}
+use Prim.Native.Nat.{ℕ, _+_, _-_, _*_, _/_, _%_, _≤_, _<_, min}
 use mathlib.Core.Path.{_≡_, refl, sym, _∙_, ap}
 use mathlib.Core.Bool.{not}
 use mathlib.Core.List.{List, [], _∷_, _++_}
 use mathlib.Core.Logic.{⊎-elim, _≢_}
-use native.Mathlib.Nat.{div-add-mod', zero-mul}
+use native.Mathlib.Nat.{div-add-mod', zero-mul, le-trans, div-mul-le-self, le-div-iff-mul-le}
 use native.Mathlib.Omega.{arith}
-use borrow.Author.Tests.{lt-ltb, le-ltb, eq-eqb, ne-eqb}
+use borrow.Author.Tests.{lt-ltb, le-ltb, eq-eqb, ne-eqb, eqb-true, ltb-false, not-false}
 use lib.Dec.{eqb, ltb}
 use lib.ListN.{length}
 use Rattle.lists.specs.Lists.{either}
 use Rattle.lists.specs.Rows.{row, refusal, distinct, fresh}
-use Rattle.lists.proofs.Cases.{same-or, either-right}
-use Rattle.lists.proofs.Rows.{stop, pass, append-given, append-none}
+use Rattle.lists.proofs.Cases.{same-or, either-right, either-none}
+use Rattle.lists.proofs.Rows.{stop, pass, append-given, append-none, given-none}
 use Rattle.header.specs.Fields.{lengthOf}
 use Rattle.header.specs.Read.{headerRows, readRows, readNo, headerOf, ReadSays}
 use Rattle.header.specs.declared.Read.{Read}
@@ -21,6 +21,7 @@ use Rattle.header.specs.declared.Version.the-variants.{V3, V4}
 use Rattle.header.specs.declared.Validation.{Validation}
 use Rattle.header.specs.declared.Header.{Header}
 use Rattle.alloc.specs.Lists.{most, sectorsIn, roomOf}
+use Rattle.sectors.specs.Sectors.{Holds}
 use Rattle.alloc.specs.Opening.{firstRows}
 use Rattle.alloc.specs.Early.{EarlySays}
 use Rattle.alloc.specs.declared.early.Early.{Early}
@@ -94,3 +95,34 @@ one-whole used s h e =
     (λ (z : used / s ≡ 0). absurd (omega (arith, div-add-mod' used s, ap (λ (q : ℕ). q * s) z, zero-mul s)))
     (λ (n : used / s ≢ 0). omega arith)
     (same-or (used / s) 0)
+
+-- whole sectors of a version, of which an image has so many bytes
+version-holds : (v : Version) (n len : ℕ) → (n + 1) * lengthOf v ≤ len → Holds (lengthOf v) n len
+version-holds V3 n len h = record { entries = refl; two = omega arith; fits = h }
+version-holds V4 n len h = record { entries = refl; two = omega arith; fits = h }
+
+-- fewer bytes are no more sectors
+sectors-within : (s used len : ℕ) → 1 ≤ s → used ≤ len → used / s ≤ len / s
+sectors-within s used len h l = le-div-iff-mul-le {k = s} {x = used / s} {y = len} h .1 (le-trans (div-mul-le-self used s) l)
+
+-- what is known of an image that passes the first rows: its sectors are there, and are no more than the room of each table
+pub early-held : (m : Validation) (img : List ℕ) (used short : ℕ) → refusal (firstRows m img used short) ≡ 0
+    → Holds (lengthOf (headerOf img .version)) (sectorsIn (lengthOf (headerOf img .version)) used) (length img)
+    × (sectorsIn (lengthOf (headerOf img .version)) used ≤ most)
+    × (sectorsIn (lengthOf (headerOf img .version)) used ≤ short)
+unfolding firstRows headerRows distinct fresh sectorsIn roomOf
+early-held m img used short z =
+    let v = headerOf img .version in
+    let none = given-none (firstRows m img used short) refl z in
+    let ends = either-none _ _ (none 0 (omega arith)) in
+    let whole = either-none _ _ (none 9 (omega arith)) in
+    let low : 512 ≤ used = ltb-false _ _ (ends .0) in
+    let high : used ≤ length img = ltb-false _ _ (ends .1) in
+    let even : used % lengthOf v ≡ 0 = eqb-true _ _ (not-false _ (whole .0)) in
+    let few : used / lengthOf v - 1 ≤ most = ltb-false _ _ (whole .1) in
+    let room : min most (length img / lengthOf v - 1) ≤ short = ltb-false _ _ (none 10 (omega arith)) in
+    let one : 1 ≤ used / lengthOf v = one-whole used (lengthOf v) (omega arith) even in
+    let count : used / lengthOf v - 1 + 1 ≡ used / lengthOf v = omega arith in
+    let fits : (used / lengthOf v - 1 + 1) * lengthOf v ≤ length img = rw count (le-trans (div-mul-le-self used (lengthOf v)) high) in
+    let within : used / lengthOf v ≤ length img / lengthOf v = sectors-within (lengthOf v) used (length img) (omega (arith, length-some v)) high in
+    (version-holds v _ _ fits, few, omega (arith, room, few, within))
