@@ -6,3 +6,4 @@ pub mod Listing
 pub mod Loading
 pub mod Marking
 pub mod Opening
+pub mod Opens

@@ -4,13 +4,19 @@ use mathlib.Core.Path.{_≡_}
 use mathlib.Core.Bool.{Bool}
 use mathlib.Core.List.{List, _++_}
 use lib.ListN.{length, replicate}
+use lib.Dec.{eqb}
+use Rattle.lists.specs.Lists.{choose}
 use Rattle.lists.specs.Rows.{refusal}
 use Rattle.sectors.specs.Sectors.{Holds}
+use Rattle.header.specs.Fields.{lengthOf}
+use Rattle.header.specs.Read.{none, headerOf}
 use Rattle.header.specs.declared.Header.{Header}
-use Rattle.alloc.specs.Lists.{most, difatsIn, fatsIn}
+use Rattle.header.specs.declared.Validation.{Validation}
+use Rattle.alloc.specs.Lists.{most, sectorsIn, difatsIn, fatsIn}
 use Rattle.alloc.specs.Judge.{freesOf, marksOf}
-use Rattle.alloc.specs.Opening.{tableRows, openFat}
+use Rattle.alloc.specs.Opening.{Tables, tableRows, openFat, openTables, openNo, shortest, leftIn}
 use Rattle.alloc.specs.declared.open.Filled.{Filled}
+use Rattle.alloc.specs.declared.open.Found.{Found}
 
 -- a list, and zeros after it up to a length
 unfoldable pub padded : List ℕ → ℕ → List ℕ
@@ -68,3 +74,21 @@ pub record AllLoaded (strict : Bool) (S : ℕ) (img : List ℕ) (h : Header) (n 
   pub difats-zero : (r .no ≡ 0 → ⊥) → difats ≡ replicate c 0
   pub frees-zero : (r .no ≡ 0 → ⊥) → frees ≡ replicate e 0
   pub marks-zero : (r .no ≡ 0 → ⊥) → marks ≡ replicate g 0
+
+-- what an opening finds: of an image that opens its sectors, how many are FREE, and its header; else nothing beside the number
+unfoldable pub foundIn : ℕ → ℕ → List ℕ → Header → ℕ → Found
+unfolding openTables none
+foundIn k S img h n =
+    choose (eqb k 0) (record { no = 0; sectors = n; free = length (openTables S img h n .frees); header = h })
+    (record { no = k; sectors = 0; free = 0; header = none })
+
+-- the tables that an opening leaves in lent ones
+unfoldable pub tablesLeft : ℕ → Tables → Tables → Tables
+unfolding leftIn
+tablesLeft k t o =
+    record { fat = leftIn k (t .fat) (o .fat); fats = leftIn k (t .fats) (o .fats); difats = leftIn k (t .difats) (o .difats); frees = leftIn k (t .frees) (o .frees); marks = leftIn k (t .marks) (o .marks) }
+
+-- document 01, "Opening an image": what is found, and what is left in the lent tables
+pub record OpenSays (m : Validation) (img : List ℕ) (used : ℕ) (t : Tables) (r : Found) (t' : Tables) : Type 0 where
+  pub found : r ≡ foundIn (openNo m img used (shortest t)) (lengthOf (headerOf img .version)) img (headerOf img) (sectorsIn (lengthOf (headerOf img .version)) used)
+  pub left : t' ≡ tablesLeft (openNo m img used (shortest t)) t (openTables (lengthOf (headerOf img .version)) img (headerOf img) (sectorsIn (lengthOf (headerOf img .version)) used))

@@ -1,13 +1,16 @@
 // The opening of an image (document 01, "Opening an image").
+use crate::early::judge_early;
 use crate::judge::list_free;
 use crate::listed::ceil;
 use crate::load::past_header;
 use crate::tables::load_tables;
 use header::Header;
+use header::Validation;
 ghost use mathlib.Core.Path.{_≡_};
-ghost use Prim.Native.Nat.{_≤_};
+ghost use Prim.Native.Nat.{_≤_, min};
 ghost use lib.ListN.{length, replicate};
-ghost use Rattle.alloc.specs.Opened.{AllFilled, AllLoaded, Lent, Zeroed, TablesFilled};
+ghost use Rattle.header.specs.Read.{none};
+ghost use Rattle.alloc.specs.Opened.{AllFilled, AllLoaded, Lent, OpenSays, Zeroed, TablesFilled};
 
 // Makes every lent table zero.
 pub(crate) fn clear(
@@ -111,4 +114,73 @@ pub(crate) fn load_all(
         clear(fat, fats, difats, frees, marks);
     }
     filled
+}
+
+// What an opening found: its number, how many sectors the image has, how many of them are FREE, and the header.
+pub struct Found {
+    pub no: u32,
+    pub sectors: usize,
+    pub free: usize,
+    pub header: Header,
+}
+
+// What stands beside a refusal.
+fn nothing(no: u32) -> Found
+    ensures { λ r. ⌜ r ≡ record { no = no; sectors = 0; free = 0; header = none } ⌝ }
+{
+    let header = Header::none();
+    Found {
+        no,
+        sectors: 0,
+        free: 0,
+        header,
+    }
+}
+
+// The lesser of two lengths.
+fn lesser_of(a: usize, b: usize) -> usize
+    ensures { λ r. ⌜ r ≡ min a b ⌝ }
+{
+    if a < b {
+        return a;
+    }
+    b
+}
+
+// Opens an image of which so many bytes are used, and leaves its tables in lent ones.
+pub fn open_tables(
+    image: &[u8],
+    used: usize,
+    validation: Validation,
+    fat: &mut [u32],
+    fats: &mut [u32],
+    difats: &mut [u32],
+    frees: &mut [u32],
+    marks: &mut [u8],
+) -> Found
+    ensures { λ r. ⌜ OpenSays validation (now (image .entry)) used (record { fat = now (fat .entry); fats = now (fats .entry); difats = now (difats .entry); frees = now (frees .entry); marks = now (marks .entry) }) r (record { fat = now (fat .exit); fats = now (fats .exit); difats = now (difats .exit); frees = now (frees .exit); marks = now (marks .exit) }) ⌝ }
+{
+    let others = lesser_of(difats.len(), lesser_of(frees.len(), marks.len()));
+    let short = lesser_of(fat.len(), lesser_of(fats.len(), others));
+    let early = judge_early(image, used, validation, short);
+    let no = early.no;
+    if no != 0 {
+        return nothing(no);
+    }
+    let s = early.len;
+    let n = early.sectors;
+    let h = early.header;
+    let strict = validation.is_strict();
+    let filled = load_all(image, s, n, h, strict, fat, fats, difats, frees, marks);
+    let no = filled.no;
+    if no != 0 {
+        return nothing(no);
+    }
+    let free = filled.free;
+    Found {
+        no: 0,
+        sectors: n,
+        free,
+        header: h,
+    }
 }

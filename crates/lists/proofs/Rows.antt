@@ -5,12 +5,12 @@ use mathlib.Core.Bool.{Bool, true, false, not}
 use mathlib.Core.List.{List, [], _∷_, _++_}
 use mathlib.Core.Logic.{⊎-elim}
 use native.Mathlib.Omega.{arith}
-use borrow.Author.Tests.{not-true, eqb-false}
-use lib.Dec.{eqb}
+use borrow.Author.Tests.{leb-true, not-true, eqb-false}
+use lib.Dec.{eqb, leb}
 use lib.ListN.{length, getD, drop, drop-of-length-le, List·getD-eq-default}
 use lib.Seq.{drop-cons, drop-length}
-use Rattle.lists.specs.Lists.{choose}
-use Rattle.lists.specs.Rows.{Row, row, refusal, fresh, distinct}
+use Rattle.lists.specs.Lists.{choose, both}
+use Rattle.lists.specs.Rows.{Row, row, refusal, fresh, distinct, between}
 use Rattle.lists.proofs.Cases.{below-or, both-left, both-right, not-both, true-or}
 
 -- the row past the end holds never
@@ -91,6 +91,20 @@ given-none (r ∷ rs) d e j l =
     at : r .holds ≡ false → ((j : ℕ) → j < length rs → getD rs j noRow .holds ≡ false) → (j : ℕ) → j < suc (length rs) → getD (r ∷ rs) j noRow .holds ≡ false
     at t f zero h = t
     at t f (suc j) h = f j (omega arith)
+
+-- a number that is given is the number of a row
+pub given-between : (lo hi : ℕ) (rs : List Row) → between lo hi rs ≡ true → (refusal rs ≡ 0 → ⊥) → (lo ≤ refusal rs) × (refusal rs ≤ hi)
+unfolding between refusal
+given-between lo hi [] b n = absurd (n refl)
+given-between lo hi (r ∷ rs) b n =
+    let own : both (leb lo (r .no)) (leb (r .no) hi) ≡ true = both-left _ (between lo hi rs) b in
+    at (r .holds) n (leb-true lo (r .no) (both-left _ (leb (r .no) hi) own)) (leb-true (r .no) hi (both-right (leb lo (r .no)) _ own))
+    (given-between lo hi rs (both-right (both (leb lo (r .no)) (leb (r .no) hi)) _ b))
+  where
+    at : (t : Bool) → (choose t (r .no) (refusal rs) ≡ 0 → ⊥) → lo ≤ r .no → r .no ≤ hi → ((refusal rs ≡ 0 → ⊥) → (lo ≤ refusal rs) × (refusal rs ≤ hi))
+        → (lo ≤ choose t (r .no) (refusal rs)) × (choose t (r .no) (refusal rs) ≤ hi)
+    at true n low high rest = (low, high)
+    at false n low high rest = rest n
 
 -- a table judged row by row: the first k rows are passed over
 pub record Passed (rs : List Row) (k : ℕ) : Type 0 where

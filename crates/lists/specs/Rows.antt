@@ -3,7 +3,7 @@ use Prim.Native.Nat.{ℕ}
 use mathlib.Core.Path.{_≡_}
 use mathlib.Core.Bool.{Bool, true, false, not}
 use mathlib.Core.List.{List, [], _∷_}
-use lib.Dec.{eqb, ltb}
+use lib.Dec.{eqb, leb, ltb}
 use Rattle.lists.specs.Lists.{choose, both}
 
 pub record Row : Type 0 where
@@ -29,6 +29,11 @@ unfoldable pub distinct : List Row → Bool
 unfolding fresh
 distinct [] = true
 distinct (r ∷ rs) = both (fresh (r .no) rs) (distinct rs)
+
+-- the numbers of the rows are from lo to hi
+unfoldable pub between : ℕ → ℕ → List Row → Bool
+between lo hi [] = true
+between lo hi (r ∷ rs) = both (both (leb lo (r .no)) (leb (r .no) hi)) (between lo hi rs)
 
 -- the test that stands in a table beside number k
 unfoldable pub testOf : List Row → ℕ → Bool
