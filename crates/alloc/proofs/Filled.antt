@@ -8,12 +8,12 @@ use lib.ListN.{length, getD, take, drop, replicate, length-drop, length-replicat
 use lib.Seq.{ext-getD, getD-take, getD-drop, length-take-le, take-at}
 use Rattle.lists.proofs.Tab.{length-tab}
 use Rattle.header.specs.declared.Header.{Header}
-use Rattle.alloc.specs.Lists.{fatCount, difatCount, difatsOf, fatsOf, difatsIn, fatsIn}
-use Rattle.alloc.specs.Judge.{forgivenFat, marksOf, freesOf}
-use Rattle.alloc.specs.Loaded.{Counted}
-use Rattle.alloc.specs.Judged.{TablesLoaded, Listed}
+use Rattle.fat.specs.Lists.{fatCount, difatCount, difatsOf, fatsOf, difatsIn, fatsIn}
+use Rattle.judge.specs.Judge.{forgivenFat, marksOf, freesOf}
+use Rattle.fat.specs.Loaded.{Counted}
+use Rattle.alloc.specs.Opened.{TablesLoaded, padded, Zeroed, TablesFilled, AllFilled, Lent}
+use Rattle.judge.specs.Judged.{Listed}
 use Rattle.alloc.specs.Opening.{openFat}
-use Rattle.alloc.specs.Opened.{padded, Zeroed, TablesFilled, AllFilled, Lent}
 use Rattle.alloc.specs.declared.open.Filled.{Filled}
 
 -- the front and the rest of a list of zeros

@@ -20,7 +20,7 @@ use Rattle.header.specs.declared.Version.{Version}
 use Rattle.header.specs.declared.Version.the-variants.{V3, V4}
 use Rattle.header.specs.declared.Validation.{Validation}
 use Rattle.header.specs.declared.Header.{Header}
-use Rattle.alloc.specs.Lists.{most, sectorsIn, roomOf}
+use Rattle.fat.specs.Lists.{most, sectorsIn, roomOf}
 use Rattle.sectors.specs.Sectors.{Holds}
 use Rattle.alloc.specs.Opening.{firstRows}
 use Rattle.alloc.specs.Early.{EarlySays}

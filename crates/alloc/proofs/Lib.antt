@@ -1,9 +1,5 @@
 pub mod Examples
 pub mod Filled
 pub mod First
-pub mod Judging
-pub mod Listing
-pub mod Loading
-pub mod Marking
 pub mod Opening
 pub mod Opens

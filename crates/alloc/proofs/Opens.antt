@@ -14,9 +14,9 @@ use Rattle.header.specs.declared.Header.{Header}
 use Rattle.header.specs.declared.Validation.{Validation}
 use Rattle.header.specs.declared.Version.{Version}
 use Rattle.header.specs.declared.Version.the-variants.{V3, V4}
-use Rattle.alloc.specs.Lists.{sectorsIn}
-use Rattle.alloc.specs.Judge.{freesOf}
-use Rattle.alloc.specs.Opening.{Tables, firstRows, tableRows, fatRows, openRows, openNo, openFat, openTables, shortest, leftIn}
+use Rattle.fat.specs.Lists.{sectorsIn}
+use Rattle.judge.specs.Judge.{freesOf, fatRows}
+use Rattle.alloc.specs.Opening.{Tables, firstRows, tableRows, openRows, openNo, openFat, openTables, shortest, leftIn}
 use Rattle.alloc.specs.Opened.{padded, foundIn, tablesLeft, AllLoaded, Lent, OpenSays}
 use Rattle.alloc.specs.declared.open.Filled.{Filled}
 use Rattle.alloc.specs.declared.open.Found.{Found}

@@ -6,7 +6,7 @@ use Rattle.lists.specs.Rows.{refusal}
 use Rattle.header.specs.Fields.{lengthOf}
 use Rattle.header.specs.Read.{headerOf}
 use Rattle.header.specs.declared.Validation.{Validation}
-use Rattle.alloc.specs.Lists.{sectorsIn}
+use Rattle.fat.specs.Lists.{sectorsIn}
 use Rattle.alloc.specs.Opening.{firstRows}
 use Rattle.alloc.specs.declared.early.Early.{Early}
 

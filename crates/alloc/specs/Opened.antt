@@ -12,8 +12,8 @@ use Rattle.header.specs.Fields.{lengthOf}
 use Rattle.header.specs.Read.{none, headerOf}
 use Rattle.header.specs.declared.Header.{Header}
 use Rattle.header.specs.declared.Validation.{Validation}
-use Rattle.alloc.specs.Lists.{most, sectorsIn, difatsIn, fatsIn}
-use Rattle.alloc.specs.Judge.{freesOf, marksOf}
+use Rattle.fat.specs.Lists.{most, sectorsIn, difatsIn, fatsIn}
+use Rattle.judge.specs.Judge.{freesOf, marksOf}
 use Rattle.alloc.specs.Opening.{Tables, tableRows, openFat, openTables, openNo, shortest, leftIn}
 use Rattle.alloc.specs.declared.open.Filled.{Filled}
 use Rattle.alloc.specs.declared.open.Found.{Found}
@@ -36,6 +36,14 @@ pub record Zeroed (S n len : ℕ) (fat fats difats : List ℕ) (scratch : ℕ) (
   pub difats-long : n ≤ length difats
   pub scratch-long : n ≤ scratch
   pub marks-long : n ≤ length marks
+
+-- the tables are loaded and judged (12 to 18): the number, and, where it is 0, what they hold
+pub record TablesLoaded (strict : Bool) (S : ℕ) (img : List ℕ) (h : Header) (n r : ℕ) (fat fats difats marks : List ℕ) : Type 0 where
+  pub number : r ≡ refusal (tableRows strict S img h n)
+  pub fat-holds : r ≡ 0 → fat ≡ openFat S img h n
+  pub fats-hold : r ≡ 0 → fats ≡ fatsIn S img h n
+  pub difats-hold : r ≡ 0 → difats ≡ difatsIn S img h n
+  pub marks-hold : r ≡ 0 → marks ≡ marksOf n (openFat S img h n)
 
 -- the tables are loaded into their fronts: the number, and, where it is 0, what they hold
 pub record TablesFilled (strict : Bool) (S : ℕ) (img : List ℕ) (h : Header) (n a b c e r : ℕ) (fat fats difats marks : List ℕ) : Type 0 where

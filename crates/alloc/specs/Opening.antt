@@ -4,15 +4,14 @@ use mathlib.Core.Bool.{Bool, not}
 use mathlib.Core.List.{List, [], _∷_, _++_}
 use lib.Dec.{eqb, ltb, leb}
 use lib.ListN.{length, replicate}
-use Rattle.lists.specs.Lists.{choose, both, either}
+use Rattle.lists.specs.Lists.{choose, either}
 use Rattle.lists.specs.Rows.{Row, row, refusal}
 use Rattle.header.specs.Fields.{lengthOf, isStrict}
 use Rattle.header.specs.Read.{headerRows, headerOf}
 use Rattle.header.specs.declared.Validation.{Validation}
 use Rattle.header.specs.declared.Header.{Header}
-use Rattle.consts.specs.Consts.{difatSector, fatSector}
-use Rattle.alloc.specs.Lists.{most, sectorsIn, roomOf, fatOf, difatsIn, fatsIn, listsRight, tailFree}
-use Rattle.alloc.specs.Judge.{allMarked, markedFat, firstWrong, forgivenFat, marksOf, noneDangles, freesOf}
+use Rattle.fat.specs.Lists.{most, sectorsIn, roomOf, fatOf, difatsIn, fatsIn, listsRight, tailFree}
+use Rattle.judge.specs.Judge.{markedFat, forgivenFat, marksOf, freesOf, fatRows}
 
 -- the tables of an opened image
 pub record Tables : Type 0 where
@@ -45,17 +44,6 @@ unfoldable pub openTables : ℕ → List ℕ → Header → ℕ → Tables
 unfolding openFat fatsIn difatsIn freesOf marksOf
 openTables S img h n =
     record { fat = openFat S img h n; fats = fatsIn S img h n; difats = difatsIn S img h n; frees = freesOf n (openFat S img h n); marks = marksOf n (openFat S img h n) }
-
--- document 01's rows 14 to 18, of a FAT of n entries as the bytes have it, and its listed sectors
-unfoldable pub fatRows : Bool → ℕ → List ℕ → List ℕ → List ℕ → List Row
-unfolding allMarked markedFat firstWrong forgivenFat noneDangles
-fatRows strict n fat difats fats =
-    row 14 (both strict (not (both (allMarked fat difats difatSector) (allMarked fat fats fatSector))))
-    ∷ row 15 (eqb (firstWrong strict n (markedFat fat difats fats) 0 n) 15)
-    ∷ row 16 (eqb (firstWrong strict n (markedFat fat difats fats) 0 n) 16)
-    ∷ row 17 (eqb (firstWrong strict n (markedFat fat difats fats) 0 n) 17)
-    ∷ row 18 (not (noneDangles n (forgivenFat n (markedFat fat difats fats))))
-    ∷ []
 
 -- document 01's rows 12 to 18, of an image with header h and n sectors of S bytes
 unfoldable pub tableRows : Bool → ℕ → List ℕ → Header → ℕ → List Row

@@ -4,7 +4,7 @@ use header::Validation;
 ghost use mathlib.Core.Path.{_≡_};
 ghost use Prim.Native.Nat.{_≤_};
 ghost use lib.ListN.{length};
-ghost use Rattle.alloc.specs.Lists.{roomOf};
+ghost use Rattle.fat.specs.Lists.{roomOf};
 ghost use Rattle.alloc.specs.Early.{EarlySays};
 
 // The most sectors that an image may have.

@@ -1,13 +1,13 @@
 // The opening of an image (document 01, "Opening an image").
 use crate::early::judge_early;
-use crate::judge::list_free;
-use crate::listed::ceil;
-use crate::load::past_header;
 use crate::tables::load_tables;
+use fat::listed::ceil;
+use fat::load::past_header;
 use header::Header;
 use header::Validation;
+use judge::entries::list_free;
 ghost use mathlib.Core.Path.{_≡_};
-ghost use Prim.Native.Nat.{_≤_, min};
+ghost use Prim.Native.Nat.{min};
 ghost use lib.ListN.{length, replicate};
 ghost use Rattle.header.specs.Read.{none};
 ghost use Rattle.alloc.specs.Opened.{AllFilled, AllLoaded, Lent, OpenSays, Zeroed, TablesFilled};

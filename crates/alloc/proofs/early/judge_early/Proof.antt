@@ -7,7 +7,7 @@ use lib.ListN.{length}
 use Rattle.header.specs.Fields.{lengthOf}
 use Rattle.header.specs.Read.{readNo, headerOf}
 use Rattle.header.specs.declared.Header.{Header}
-use Rattle.alloc.specs.Lists.{sectorsIn, roomOf}
+use Rattle.fat.specs.Lists.{sectorsIn, roomOf}
 use Rattle.alloc.proofs.First.{early-below, early-above, early-header, early-odd, early-many, early-short, early-passed, early-no, read-header, length-some, one-whole}
 use borrow.Author.Needs.{needs}
 use Rattle.alloc.proofs.early.judge_early.Statement.{statement}

@@ -1,6 +1,6 @@
 -- Two cases of a quotient, by arithmetic.
 use native.Mathlib.Omega.{arith}
-use Rattle.alloc.specs.Lists.{roomOf, sectorsIn}
+use Rattle.fat.specs.Lists.{roomOf, sectorsIn}
 use borrow.Author.Needs.{needs}
 use Rattle.alloc.proofs.early.room.Statement.{statement}
 use Rattle.alloc.proofs.early.room.Tie as tie

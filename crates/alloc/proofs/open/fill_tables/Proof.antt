@@ -5,9 +5,9 @@ use native.Mathlib.Omega.{arith}
 use lib.ListN.{length, take, replicate}
 use lib.Seq.{length-take-le}
 use Rattle.sectors.specs.Sectors.{perSector}
-use Rattle.alloc.specs.Lists.{fatCount, difatCount, ceil}
-use Rattle.alloc.specs.Loaded.{Counted}
-use Rattle.alloc.proofs.Listing.{ceil-few, fats-few, difats-few}
+use Rattle.fat.specs.Lists.{fatCount, difatCount, ceil}
+use Rattle.fat.specs.Loaded.{Counted}
+use Rattle.fat.proofs.Listing.{ceil-few, fats-few, difats-few}
 use Rattle.alloc.proofs.Filled.{zero-front, zeroed-counted, counted-same, filled}
 use borrow.Author.Needs.{needs}
 use Rattle.alloc.proofs.open.fill_tables.Statement.{statement}

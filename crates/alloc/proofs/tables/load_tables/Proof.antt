@@ -3,10 +3,10 @@ use mathlib.Core.Path.{_≡_, sym, _∙_, ap}
 use Prim.Native.Nat.{ℕ}
 use mathlib.Core.Bool.{true}
 use native.Mathlib.Omega.{arith}
-use Rattle.alloc.specs.Loaded.{Covers}
+use Rattle.fat.specs.Loaded.{Covers}
 use borrow.Author.Tests.{not-true, not-false}
 use lib.ListN.{length, replicate}
-use Rattle.alloc.proofs.Marking.{below-kept}
+use Rattle.fat.proofs.Differing.{below-kept}
 use Rattle.alloc.proofs.Opening.{lists-fats, lists-difats, lists-cover, tables-12, tables-13, tables-judged}
 use borrow.Author.Needs.{needs}
 use Rattle.alloc.proofs.tables.load_tables.Statement.{statement}

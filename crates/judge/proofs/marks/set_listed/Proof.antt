@@ -1,0 +1,23 @@
+-- `marks::set_listed` meets its contract: two calls, and the length stays.
+use mathlib.Core.Path.{_∙_}
+use Rattle.fat.proofs.Differing.{below-kept}
+use Rattle.judge.proofs.Marking.{markedFat-two}
+use Rattle.judge.proofs.marks.set_listed.Statement.{statement}
+use Rattle.judge.proofs.marks.set_listed.Tie as tie
+
+set-all-requires : tie.Need-set-all-requires
+set-all-requires c κs = c .before .before .before .before .pre .0
+
+set-all-requires-2 : tie.Need-set-all-requires-2
+set-all-requires-2 c κs = let g = c .before .before .before .before .before .before .before .before in
+    below-kept _ _ (g .args .fats .now) (c .before .before .before .set-all .kept .0) (g .pre .1)
+
+same-length : tie.Need-same-length
+same-length c = c .before .before .set-all2 .kept .0 ∙ c .before .before .before .before .before .before .set-all .kept .0
+
+returns : tie.Need-returns
+returns c = let g = c .before .before .before .before .before .before .before .before .before .before .before in
+    markedFat-two (g .args .fat .now) _ _ (g .args .difats .now) (g .args .fats .now) (c .before .before .before .before .before .before .set-all .ensures) (c .before .before .set-all2 .ensures)
+
+pub set-listed-spec : {M : Type 1} → statement M
+set-listed-spec = tie.close (tie.spec set-all-requires set-all-requires-2 same-length returns)
