@@ -1,12 +1,14 @@
 -- The three ends of an opening: refused before a table is touched, refused by the tables, or open. Assumes nothing.
 use Prim.Native.Nat.{ℕ, _≤_, _<_, min}
-use mathlib.Core.Path.{_≡_, refl, sym, _∙_}
+use mathlib.Core.Path.{_≡_, refl, sym, _∙_, ap}
 use mathlib.Core.Bool.{Bool}
 use mathlib.Core.List.{List}
+use mathlib.Core.Logic.{⊎-elim, _≢_}
 use native.Mathlib.Omega.{arith}
 use borrow.Author.Tests.{eq-eqb, ne-eqb, le-leb, lt-leb}
 use lib.ListN.{length, replicate}
 use Rattle.lists.specs.Rows.{refusal, distinct, fresh, between}
+use Rattle.lists.proofs.Cases.{same-or}
 use Rattle.lists.proofs.Rows.{append-given, append-none, given-between}
 use Rattle.header.specs.Fields.{lengthOf, isStrict}
 use Rattle.header.specs.Read.{none, headerRows, headerOf}
@@ -36,13 +38,21 @@ unfolding leftIn padded
 left-loaded k before xs z = rw (eq-eqb k 0 z)
 
 -- what is found beside a refusal, and of an image that opens
-found-nothing : (k S : ℕ) (img : List ℕ) (h : Header) (n : ℕ) → (k ≡ 0 → ⊥) → foundIn k S img h n ≡ record { no = k; sectors = 0; free = 0; header = none }
+pub found-nothing : (k S : ℕ) (img : List ℕ) (h : Header) (n : ℕ) → (k ≡ 0 → ⊥) → foundIn k S img h n ≡ record { no = k; sectors = 0; free = 0; header = none }
 unfolding foundIn
 found-nothing k S img h n z = rw (ne-eqb k 0 z)
 
-found-open : (k S : ℕ) (img : List ℕ) (h : Header) (n : ℕ) → k ≡ 0 → foundIn k S img h n ≡ record { no = 0; sectors = n; free = length (freesOf n (openFat S img h n)); header = h }
+pub found-open : (k S : ℕ) (img : List ℕ) (h : Header) (n : ℕ) → k ≡ 0 → foundIn k S img h n ≡ record { no = 0; sectors = n; free = length (freesOf n (openFat S img h n)); header = h }
 unfolding foundIn openTables
 found-open k S img h n z = rw (eq-eqb k 0 z)
+
+-- the number that is found is the opening's own
+pub found-number : (k S : ℕ) (img : List ℕ) (h : Header) (n : ℕ) → foundIn k S img h n .no ≡ k
+found-number k S img h n =
+    ⊎-elim
+    (λ (z : k ≡ 0). ap (λ (f : Found). f .no) (found-open k S img h n z) ∙ sym z)
+    (λ (n' : k ≢ 0). ap (λ (f : Found). f .no) (found-nothing k S img h n n'))
+    (same-or k 0)
 
 -- tables are equal that hold the same
 same-tables : (a b c d e a' b' c' d' e' : List ℕ) → a ≡ a' → b ≡ b' → c ≡ c' → d ≡ d' → e ≡ e'

@@ -1,0 +1,106 @@
+// The public face: an image is opened into a state and lent tables, and the state goes from call to call.
+use alloc::open::open_tables;
+use header::Header;
+use header::Validation;
+use header::Version;
+ghost use mathlib.Core.Path.{_≡_};
+ghost use Rattle.cfb.specs.Face.{numberOf, noState, Opens};
+
+// The answer of an opening: how many sectors the image has and how many of them are FREE, or the number of the refusal.
+pub enum Verdict {
+    Accepted { sectors: usize, free: usize },
+    Refused(u32),
+}
+
+impl Verdict {
+    // Document 01's number of the answer: 0 for an acceptance.
+    pub fn number(self) -> u32
+        ensures { λ r. ⌜ r ≡ numberOf self ⌝ }
+    {
+        match self {
+            Verdict::Accepted {
+                sectors: _,
+                free: _,
+            } => 0,
+            Verdict::Refused(no) => no,
+        }
+    }
+}
+
+// What is known of an open image besides its tables: the mode it was opened in, how many bytes are used, how many sectors there are and how many of them FREE, and the header.
+pub struct State {
+    pub mode: Validation,
+    pub used: usize,
+    pub sectors: usize,
+    pub free: usize,
+    pub header: Header,
+}
+
+// An opening's answer, and the state beside it.
+pub struct Opened {
+    pub verdict: Verdict,
+    pub state: State,
+}
+
+impl State {
+    // What stands beside a refusal: version 3, strict, all numbers 0.
+    pub fn none() -> State
+        ensures { λ r. ⌜ r ≡ noState ⌝ }
+    {
+        let header = Header::none();
+        State {
+            mode: Validation::Strict,
+            used: 0,
+            sectors: 0,
+            free: 0,
+            header,
+        }
+    }
+
+    // The version of the image.
+    pub fn version(self) -> Version
+        ensures { λ r. ⌜ r ≡ self .header .version ⌝ }
+    {
+        let header = self.header;
+        header.version
+    }
+
+    // Opens an image of which `used` bytes are used, and leaves its tables in the lent ones: the FAT, the lists of FAT
+    // and DIFAT sectors, the FREE sectors ascending, and a mark for each sector that some entry points at. Refusals 1 to
+    // 11 leave the tables as they were, 12 to 18 leave them zero.
+    pub fn open(
+        image: &[u8],
+        used: usize,
+        mode: Validation,
+        fat: &mut [u32],
+        fats: &mut [u32],
+        difats: &mut [u32],
+        frees: &mut [u32],
+        marks: &mut [u8],
+    ) -> Opened
+        ensures { λ r. ⌜ Opens mode (now (image .entry)) used (record { fat = now (fat .entry); fats = now (fats .entry); difats = now (difats .entry); frees = now (frees .entry); marks = now (marks .entry) }) r (record { fat = now (fat .exit); fats = now (fats .exit); difats = now (difats .exit); frees = now (frees .exit); marks = now (marks .exit) }) ⌝ }
+    {
+        let found = open_tables(image, used, mode, fat, fats, difats, frees, marks);
+        let no = found.no;
+        if no != 0 {
+            let state = State::none();
+            return Opened {
+                verdict: Verdict::Refused(no),
+                state,
+            };
+        }
+        let sectors = found.sectors;
+        let free = found.free;
+        let header = found.header;
+        Opened {
+            verdict: Verdict::Accepted { sectors, free },
+            state: State {
+                mode,
+                used,
+                sectors,
+                free,
+                header,
+            },
+        }
+    }
+}
