@@ -13,7 +13,7 @@ use Rattle.alloc.specs.Opening.{Tables, openTables, openNo, shortest}
 use Rattle.alloc.specs.Opened.{OpenSays}
 use Rattle.alloc.specs.declared.open.Found.{Found}
 use Rattle.alloc.proofs.Opens.{found-open, found-number}
-use Rattle.cfb.specs.Face.{numbersOf, answer, noState, sectorsOf, tablesOf, stateOf, Opens}
+use Rattle.cfb.specs.Face.{numberOf, numbersOf, answer, noState, sectorsOf, tablesOf, stateOf, Opens}
 use Rattle.cfb.specs.declared.Verdict.{Verdict}
 use Rattle.cfb.specs.declared.Verdict.the-variants.{Accepted, Refused}
 use Rattle.cfb.specs.declared.State.{State}
@@ -79,6 +79,11 @@ refused-says j k n c e =
     (λ (z : k ≡ 0). let w : _≡_ {A = ℕ} 1 3 = ap (λ (xs : List ℕ). length xs) (e ∙ answer-accepted k n c z) in absurd (omega arith))
     (λ (d : k ≢ 0). (d, ap (λ (xs : List ℕ). getD xs 0 0) (e ∙ answer-refused k n c d)))
     (same-or k 0)
+
+-- the answer's number is the opening's
+pub verdict-number : (v : Verdict) (k n c : ℕ) → numbersOf v ≡ answer k n c → numberOf v ≡ k
+verdict-number (Accepted sectors free) k n c e = sym (accepted-says sectors free k n c e .0)
+verdict-number (Refused j) k n c e = refused-says j k n c e .1
 
 -- two answers with the same numbers are one
 verdict-apart : (v w : Verdict) → numbersOf v ≡ numbersOf w → v ≡ w

@@ -22,6 +22,11 @@ use Rattle.header.specs.declared.Validation.the-variants.{Permissive, Strict}
 use Rattle.header.specs.declared.Header.{Header}
 use Rattle.header.specs.declared.Read.{Read}
 use Rattle.header.specs.declared.WriteVerdict.{WriteVerdict}
+use Rattle.alloc.specs.Opening.{Tables}
+use Rattle.cfb.specs.Face.{numberOf, Opens}
+use Rattle.cfb.specs.declared.Opened.{Opened}
+use Rattle.cfb.proofs.Facing.{verdict-number}
+use Rattle.export.specs.States.{stateWords, OpenGives}
 use Rattle.export.specs.Layout.{modeOf, headerWith, headerFrom, headerLeft, writtenNo, bytesLeft}
 
 -- 0 is permissive
@@ -113,3 +118,14 @@ module _ (words : List ℕ) {n : Numbered} {v : Version} {h : Header} {buf after
   pub written-bytes : after ≡ bytesLeft words buf
   unfolding bytesLeft
   written-bytes = says .buffer ∙ ap₂ (λ (k : ℕ) (g : Header). choose (eqb k 0) (splice buf 0 (headerBytes g)) buf) asked held
+
+-- what the face says of an opening is what its edge gives
+pub opening-gives : (mode : ℕ) (m : Validation) (img : List ℕ) (used : ℕ) (t : Tables) (r : Opened) (t' : Tables) (given : ℕ) (words : List ℕ)
+    → m ≡ modeOf mode → Opens m img used t r t' → given ≡ numberOf (r .verdict) → words ≡ stateWords (r .state) → OpenGives mode img used t given words t'
+opening-gives mode m img used t r t' given words e s n w =
+    let o : Opens (modeOf mode) img used t r t' = rw e at s in
+    record {
+      number = n ∙ verdict-number (r .verdict) _ _ _ (o .verdict);
+      state = w ∙ ap stateWords (o .state);
+      tables = o .tables;
+    }

@@ -1,18 +1,20 @@
 -- A list that is put into another element by element, and the words of a header. Assumes nothing.
 use Prim.Native.Nat.{ℕ, _+_, _≤_, _<_}
-use mathlib.Core.Path.{_≡_, _∙_, ap}
-use mathlib.Core.List.{List, _++_, append-nil}
+use mathlib.Core.Path.{_≡_, sym, _∙_, ap}
+use mathlib.Core.List.{List, [], _++_, append-nil}
 use native.Mathlib.Numerals.{add-one}
 use native.Mathlib.Omega.{arith}
-use lib.ListN.{length, getD, take, drop, set, replicate, length-drop}
-use lib.Seq.{take-suc, take-all, length-take-le, getD-drop}
+use lib.ListN.{length, getD, take, drop, set, replicate, length-drop, length-replicate, replicate-append-replicate, drop-of-length-le}
+use lib.Seq.{take-suc, take-all, length-take-le, getD-drop, take-at}
 use Rattle.lists.specs.Lists.{splice}
 use Rattle.lists.proofs.Splice.{splice-whole}
 use Rattle.words.proofs.Laws.{put-more, copied-more}
 use Rattle.header.specs.Fields.{majorOf}
 use Rattle.header.specs.declared.Version.{Version}
 use Rattle.header.specs.declared.Header.{Header}
+use Rattle.cfb.specs.declared.State.{State}
 use Rattle.export.specs.Layout.{wordsOf, headerWith}
+use Rattle.export.specs.States.{modeNumber, stateWords}
 
 -- one element more of a list that goes in from place o on
 pub placed-more : (b : List ℕ) (o : ℕ) (xs : List ℕ) (i : ℕ) {l : List ℕ} → l ≡ splice b o (take i xs) → i < length xs → o + length xs ≤ length b
@@ -21,12 +23,15 @@ placed-more b o xs i e h fits =
     let whole : length (take i xs) ≡ i = length-take-le i xs (omega arith) in
     rw (e, add-one i, take-suc xs i 0) (put-more b o (getD xs i 0) i (take i xs) whole (omega arith))
 
--- the whole of a list of 109 behind eight zeros
-pub placed-list : (xs : List ℕ) (i : ℕ) {l : List ℕ} → l ≡ splice (replicate 117 0) 8 (take i xs) → length xs ≡ 109 → 109 ≤ i → l ≡ replicate 8 0 ++ xs
+-- the whole of a list of n behind o zeros
+pub placed-all : (o n : ℕ) (xs : List ℕ) (i : ℕ) {l : List ℕ} → l ≡ splice (replicate (o + n) 0) o (take i xs) → length xs ≡ n → n ≤ i → l ≡ replicate o 0 ++ xs
 unfolding splice
-placed-list xs i e n h =
-    let all : take i xs ≡ xs = take-all i xs (omega arith) in
-    e ∙ rw (all, n) (ap (λ (r : List ℕ). replicate 8 0 ++ r) (append-nil xs))
+placed-all o n xs i e w h =
+    let zeros : replicate {A = ℕ} (o + n) 0 ≡ replicate o 0 ++ replicate n 0 = sym (replicate-append-replicate {A = ℕ} o n 0) in
+    let front : take o (replicate {A = ℕ} o 0 ++ replicate n 0) ≡ replicate o 0 = take-at (replicate o 0) (replicate n 0) o (length-replicate {A = ℕ} o 0) in
+    let whole : length (replicate {A = ℕ} (o + n) 0) ≡ o + n = length-replicate {A = ℕ} (o + n) 0 in
+    let none : drop (o + n) (replicate {A = ℕ} (o + n) 0) ≡ [] = drop-of-length-le (replicate {A = ℕ} (o + n) 0) {i = o + n} (omega arith) in
+    e ∙ rw (take-all i xs (omega arith), w, none, zeros, front) (ap (λ (r : List ℕ). replicate o 0 ++ r) (append-nil xs))
 
 -- one element more of what stands behind the eight numbers
 pub taken-more : (words : List ℕ) (i : ℕ) {l : List ℕ} → l ≡ splice (replicate 109 0) 0 (take i (drop 8 words)) → length words ≡ 117 → i < 109
@@ -46,6 +51,12 @@ pub words-stored : (h : Header) {words : List ℕ} {major : ℕ} → words ≡ r
     → set (set (set (set (set (set (set (set words 0 major) 1 (h .dirs)) 2 (h .fats)) 3 (h .dir)) 4 (h .minifat)) 5 (h .minifats)) 6 (h .difat)) 7 (h .difats) ≡ wordsOf h
 unfolding wordsOf
 words-stored h e m = rw (e, m)
+
+-- four numbers put over the zeros before a header's words are the words of a state
+pub state-stored : (s : State) {words held : List ℕ} {mode : ℕ} → held ≡ wordsOf (s .header) → words ≡ replicate 4 0 ++ held → mode ≡ modeNumber (s .mode)
+    → set (set (set (set words 0 mode) 1 (s .used)) 2 (s .sectors)) 3 (s .free) ≡ stateWords s
+unfolding stateWords
+state-stored s e w m = rw (w, e, m)
 
 -- numbers that are read at their places, and the list behind them, are the header that the words hold
 pub list-held : (v : Version) (words : List ℕ) {list : List ℕ} → list ≡ drop 8 words

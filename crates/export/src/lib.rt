@@ -2,7 +2,9 @@
 // None asks anything of its caller: every number and every slice has an answer.
 mod items;
 mod layout;
+mod states;
 
+use cfb::State;
 use header::Header;
 use header::Numbered;
 use header::Version;
@@ -14,6 +16,7 @@ use items::number_of_kind;
 use layout::header_with;
 use layout::mode_of;
 use layout::words_of;
+use states::words_of_state;
 ghost use mathlib.Core.Path.{_≡_};
 ghost use lib.ListN.{length};
 ghost use Rattle.consts.specs.Kinds.{kindOf};
@@ -21,6 +24,7 @@ ghost use Rattle.consts.specs.Pretty.{itemAt};
 ghost use Rattle.header.specs.Read.{readNo};
 ghost use Rattle.export.specs.Items.{kindNumber, itemNumber, itemNumbers, namedOf, namedText};
 ghost use Rattle.export.specs.Layout.{modeOf, wordsOf, headerLeft, writtenNo, bytesLeft};
+ghost use Rattle.export.specs.States.{OpenGives};
 
 // Reads a header: 0, or the number of the refusal; `words` then hold the header, or what stands beside the refusal. Mode 0 is permissive.
 #[no_mangle]
@@ -49,6 +53,29 @@ pub extern "C" fn rasuvelk_write_header(words: &[u32; 117], buf: &mut [u8]) -> u
     let held = *words;
     let header = header_with(version, held);
     let verdict = header.write_to(buf);
+    verdict.number()
+}
+
+// Opens an image of which `used` bytes are used: 0, or the number of the refusal; `state` then holds the state's words, and the tables what the opening leaves in them. Mode 0 is permissive.
+#[no_mangle]
+pub extern "C" fn rasuvelk_open(
+    image: &[u8],
+    used: usize,
+    mode: u32,
+    fat: &mut [u32],
+    fats: &mut [u32],
+    difats: &mut [u32],
+    frees: &mut [u32],
+    marks: &mut [u8],
+    state: &mut [u64; 121],
+) -> u32
+    ensures { λ r. ⌜ OpenGives mode (now (image .entry)) used (record { fat = now (fat .entry); fats = now (fats .entry); difats = now (difats .entry); frees = now (frees .entry); marks = now (marks .entry) }) r (now (state .exit)) (record { fat = now (fat .exit); fats = now (fats .exit); difats = now (difats .exit); frees = now (frees .exit); marks = now (marks .exit) }) ⌝ }
+{
+    let opened = State::open(image, used, mode_of(mode), fat, fats, difats, frees, marks);
+    let left = opened.state;
+    let held = words_of_state(left);
+    *state = held;
+    let verdict = opened.verdict;
     verdict.number()
 }
 

@@ -5,7 +5,7 @@ use native.Mathlib.Omega.{arith}
 use lib.ListN.{length, take, replicate}
 use Rattle.lists.specs.Lists.{splice}
 use Rattle.lists.proofs.Splice.{splice-nil}
-use Rattle.export.proofs.Placing.{placed-more, placed-list}
+use Rattle.export.proofs.Placing.{placed-more, placed-all}
 use Rattle.export.proofs.layout.words_with.Statement.{statement}
 use Rattle.export.proofs.layout.words_with.Tie as tie
 
@@ -50,7 +50,7 @@ returns : tie.Need-returns Inv-loop μ-loop
 returns c =
     let list = c .before .before .args .t1 in
     let whole : length list ≡ 109 = c .before .before .good .0 .1 .0 .1 in
-    placed-list list (c .before .loop .i) (c .before .loop .inv .1) whole (omega arith)
+    placed-all 8 109 list (c .before .loop .i) (c .before .loop .inv .1) whole (omega arith)
 
 pub words-with-spec : {M : Type 1} → statement M
 words-with-spec =
