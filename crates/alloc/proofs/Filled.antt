@@ -47,11 +47,11 @@ length-marks : (n : ℕ) (fat : List ℕ) → length (marksOf n fat) ≡ n
 unfolding marksOf
 length-marks n fat = length-tab _ n
 
-length-fats : (S : ℕ) (img : List ℕ) (h : Header) (n : ℕ) → length (fatsIn S img h n) ≡ fatCount S n
+pub length-fats : (S : ℕ) (img : List ℕ) (h : Header) (n : ℕ) → length (fatsIn S img h n) ≡ fatCount S n
 unfolding fatsIn fatsOf
 length-fats S img h n = length-tab _ (fatCount S n)
 
-length-difats : (S : ℕ) (img : List ℕ) (h : Header) (n : ℕ) → length (difatsIn S img h n) ≡ difatCount S (fatCount S n)
+pub length-difats : (S : ℕ) (img : List ℕ) (h : Header) (n : ℕ) → length (difatsIn S img h n) ≡ difatCount S (fatCount S n)
 unfolding difatsIn difatsOf
 length-difats S img h n = length-tab _ (difatCount S (fatCount S n))
 

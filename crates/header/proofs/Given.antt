@@ -135,7 +135,7 @@ broken-told : (xs : List ℕ) → not (idsThenFree xs) ≡ true → Broken xs
 broken-told xs t = broken xs (not-true (idsThenFree xs) t)
 
 -- the test that two numbers differ says so
-differ : (a b : ℕ) → not (eqb a b) ≡ true → a ≢ b
+pub differ : (a b : ℕ) → not (eqb a b) ≡ true → a ≢ b
 differ a b t = eqb-false a b (not-true (eqb a b) t)
 
 -- the test that two lists differ says so
@@ -161,7 +161,7 @@ shift-told major shift f t =
     ⊎-elim (λ (e : major ≡ 3). inl (e, differ shift 9 (rw e at t))) (λ (e : major ≡ 4). inr (e, differ shift 12 (rw e at t))) (known major f)
 
 -- strict is the one mode that insists
-strict : (m : Validation) → isStrict m ≡ true → m ≡ Strict
+pub strict : (m : Validation) → isStrict m ≡ true → m ≡ Strict
 strict Permissive t = absurd (not-both t refl)
 strict Strict t = refl
 
@@ -184,7 +184,7 @@ dirs-told m major dirs t =
 
 module _ (m : Validation) (b : List ℕ) where
   -- each of the reader's causes makes the test of its row hold
-  read-tested : (k : ℕ) → Cause m b k → testOf (readRows m b) k ≡ true
+  pub read-tested : (k : ℕ) → Cause m b k → testOf (readRows m b) k ≡ true
   unfolding testOf readRows unknown versionOf
   read-tested k (Cause.short h) = lt-ltb _ _ h
   read-tested k (Cause.unsigned n) = rw (sameList-false _ _ n)
@@ -198,7 +198,7 @@ module _ (m : Validation) (b : List ℕ) where
   read-tested k (Cause.list w) = broken-tested (listOf b) w
 
   -- the first of the reader's tests that holds has its cause
-  read-told : Explained (Cause m b) (readRows m b)
+  pub read-told : Explained (Cause m b) (readRows m b)
   unfolding readRows
   read-told =
       (λ t. Cause.short (ltb-true _ _ t)) ▸ λ f1.

@@ -17,7 +17,7 @@ use Rattle.judge.specs.Judged.{Judged, FatJudged}
 use Rattle.judge.proofs.Marking.{length-markedFat}
 
 -- what a sector can be judged as
-data Number : ℕ → Type 0 where
+pub data Number : ℕ → Type 0 where
   is-0 : Number 0
   is-15 : Number 15
   is-16 : Number 16
@@ -32,7 +32,7 @@ wrong-number strict n fat i =
     pick true x y = x
     pick false x y = y
 
-first-number : (strict : Bool) (n : ℕ) (fat : List ℕ) (i c : ℕ) → Number (firstWrong strict n fat i c)
+pub first-number : (strict : Bool) (n : ℕ) (fat : List ℕ) (i c : ℕ) → Number (firstWrong strict n fat i c)
 unfolding firstWrong
 first-number strict n fat i zero = is-0
 first-number strict n fat i (suc c) =

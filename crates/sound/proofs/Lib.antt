@@ -1,0 +1,5 @@
+pub mod Encoded
+pub mod Formed
+pub mod Given
+pub mod Meaning
+pub mod Sound
