@@ -37,24 +37,25 @@ state-accepted : (k : ℕ) (m : Validation) (img : List ℕ) (used : ℕ) → k 
 unfolding stateOf
 state-accepted k m img used z = rw (eq-eqb k 0 z)
 
-module _ (m : Validation) (img : List ℕ) (used : ℕ) (t : Tables) (f : Found) (t' : Tables) (s : OpenSays m img used t f t') where
+module _ (m : Validation) (img : List ℕ) (used : ℕ) (t : Tables) (f : Found) (img' : List ℕ) (t' : Tables) (s : OpenSays m img used t f t') (i : img' ≡ img) where
   -- the number found is the opening's
   number : f .no ≡ openNo m img used (shortest t)
   number = ap (λ (x : Found). x .no) (s .found) ∙ found-number _ _ img _ _
 
   -- refused
-  pub face-refused : (f .no ≡ 0 → ⊥) → (v : Verdict) (o : State) → v ≡ Refused (f .no) → o ≡ noState → Opens m img used t (record { verdict = v; state = o }) t'
+  pub face-refused : (f .no ≡ 0 → ⊥) → (v : Verdict) (o : State) → v ≡ Refused (f .no) → o ≡ noState → Opens m img used t (record { verdict = v; state = o }) img' t'
   unfolding tablesOf sectorsOf
   face-refused n v o e q =
       let z : openNo m img used (shortest t) ≡ 0 → ⊥ = λ y. n (number ∙ y) in
       record {
         verdict = ap numbersOf e ∙ ap (λ (k : ℕ). k ∷ []) number ∙ sym (answer-refused _ _ _ z);
         state = q ∙ sym (state-refused _ m img used z);
+        image = i;
         tables = s .left;
       }
 
   -- open
-  pub face-accepted : f .no ≡ 0 → Opens m img used t (record { verdict = Accepted (f .sectors) (f .free); state = record { mode = m; used = used; sectors = f .sectors; free = f .free; header = f .header } }) t'
+  pub face-accepted : f .no ≡ 0 → Opens m img used t (record { verdict = Accepted (f .sectors) (f .free); state = record { mode = m; used = used; sectors = f .sectors; free = f .free; header = f .header } }) img' t'
   unfolding tablesOf sectorsOf openTables
   face-accepted e =
       let z : openNo m img used (shortest t) ≡ 0 = sym number ∙ e in
@@ -62,6 +63,7 @@ module _ (m : Validation) (img : List ℕ) (used : ℕ) (t : Tables) (f : Found)
       record {
         verdict = ap (λ (x : Found). 0 ∷ x .sectors ∷ x .free ∷ []) w ∙ sym (answer-accepted _ _ _ z);
         state = ap (λ (x : Found). record { mode = m; used = used; sectors = x .sectors; free = x .free; header = x .header }) w ∙ sym (state-accepted _ m img used z);
+        image = i;
         tables = s .left;
       }
 
@@ -93,6 +95,7 @@ verdict-apart (Refused j) (Accepted c d) e = let z : _≡_ {A = ℕ} 1 3 = ap (�
 verdict-apart (Refused j) (Refused k) e = let p : j ≡ k = ap (λ (xs : List ℕ). getD xs 0 0) e in rw p
 
 -- any two results that the contract permits are the same
-pub open-unique : (m : Validation) (img : List ℕ) (used : ℕ) (t : Tables) (r q : Opened) (t' t'' : Tables) → Opens m img used t r t' → Opens m img used t q t'' → (r .verdict ≡ q .verdict) × (r .state ≡ q .state) × (t' ≡ t'')
-open-unique m img used t r q t' t'' a b =
-    (verdict-apart (r .verdict) (q .verdict) (a .verdict ∙ sym (b .verdict)), a .state ∙ sym (b .state), a .tables ∙ sym (b .tables))
+pub open-unique : (m : Validation) (img : List ℕ) (used : ℕ) (t : Tables) (r q : Opened) (img' img'' : List ℕ) (t' t'' : Tables) → Opens m img used t r img' t' → Opens m img used t q img'' t''
+    → (r .verdict ≡ q .verdict) × (r .state ≡ q .state) × (img' ≡ img'') × (t' ≡ t'')
+open-unique m img used t r q img' img'' t' t'' a b =
+    (verdict-apart (r .verdict) (q .verdict) (a .verdict ∙ sym (b .verdict)), a .state ∙ sym (b .state), a .image ∙ sym (b .image), a .tables ∙ sym (b .tables))

@@ -51,8 +51,9 @@ stateOf k m img used =
     choose (eqb k 0) (record { mode = m; used = used; sectors = sectorsOf img used; free = length (tablesOf img used .frees); header = headerOf img })
     noState
 
--- what an opening says: the answer, the state, and the lent tables t, which it leaves as t'
-pub record Opens (m : Validation) (img : List ℕ) (used : ℕ) (t : Tables) (r : Opened) (t' : Tables) : Type 0 where
+-- what an opening says: the answer, the state, the image, which it leaves alone, and the lent tables t, which it leaves as t'
+pub record Opens (m : Validation) (img : List ℕ) (used : ℕ) (t : Tables) (r : Opened) (img' : List ℕ) (t' : Tables) : Type 0 where
   pub verdict : numbersOf (r .verdict) ≡ answer (openNo m img used (shortest t)) (sectorsOf img used) (length (tablesOf img used .frees))
   pub state : r .state ≡ stateOf (openNo m img used (shortest t)) m img used
+  pub image : img' ≡ img
   pub tables : t' ≡ tablesLeft (openNo m img used (shortest t)) t (tablesOf img used)

@@ -78,7 +78,7 @@ impl State {
         frees: &mut [u32],
         marks: &mut [u8],
     ) -> Opened
-        ensures { λ r. ⌜ Opens mode (now (image .entry)) used (record { fat = now (fat .entry); fats = now (fats .entry); difats = now (difats .entry); frees = now (frees .entry); marks = now (marks .entry) }) r (record { fat = now (fat .exit); fats = now (fats .exit); difats = now (difats .exit); frees = now (frees .exit); marks = now (marks .exit) }) ⌝ }
+        ensures { λ r. ⌜ Opens mode (now (image .entry)) used (record { fat = now (fat .entry); fats = now (fats .entry); difats = now (difats .entry); frees = now (frees .entry); marks = now (marks .entry) }) r (now (image .exit)) (record { fat = now (fat .exit); fats = now (fats .exit); difats = now (difats .exit); frees = now (frees .exit); marks = now (marks .exit) }) ⌝ }
     {
         let found = open_tables(image, used, mode, fat, fats, difats, frees, marks);
         let no = found.no;

@@ -120,12 +120,13 @@ module _ (words : List ℕ) {n : Numbered} {v : Version} {h : Header} {buf after
   written-bytes = says .buffer ∙ ap₂ (λ (k : ℕ) (g : Header). choose (eqb k 0) (splice buf 0 (headerBytes g)) buf) asked held
 
 -- what the face says of an opening is what its edge gives
-pub opening-gives : (mode : ℕ) (m : Validation) (img : List ℕ) (used : ℕ) (t : Tables) (r : Opened) (t' : Tables) (given : ℕ) (words : List ℕ)
-    → m ≡ modeOf mode → Opens m img used t r t' → given ≡ numberOf (r .verdict) → words ≡ stateWords (r .state) → OpenGives mode img used t given words t'
-opening-gives mode m img used t r t' given words e s n w =
-    let o : Opens (modeOf mode) img used t r t' = rw e at s in
+pub opening-gives : (mode : ℕ) (m : Validation) (img : List ℕ) (used : ℕ) (t : Tables) (r : Opened) (img' : List ℕ) (t' : Tables) (given : ℕ) (words : List ℕ)
+    → m ≡ modeOf mode → Opens m img used t r img' t' → given ≡ numberOf (r .verdict) → words ≡ stateWords (r .state) → OpenGives mode img used t given words img' t'
+opening-gives mode m img used t r img' t' given words e s n w =
+    let o : Opens (modeOf mode) img used t r img' t' = rw e at s in
     record {
       number = n ∙ verdict-number (r .verdict) _ _ _ (o .verdict);
       state = w ∙ ap stateWords (o .state);
+      image = o .image;
       tables = o .tables;
     }

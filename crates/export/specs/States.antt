@@ -20,8 +20,9 @@ unfoldable pub stateWords : State → List ℕ
 unfolding wordsOf
 stateWords s = modeNumber (s .mode) ∷ s .used ∷ s .sectors ∷ s .free ∷ wordsOf (s .header)
 
--- an opening at the library's edge: the number, the words of the state, and the lent tables
-pub record OpenGives (mode : ℕ) (img : List ℕ) (used : ℕ) (t : Tables) (r : ℕ) (words : List ℕ) (t' : Tables) : Type 0 where
+-- an opening at the library's edge: the number, the words of the state, the image as it was, and the lent tables
+pub record OpenGives (mode : ℕ) (img : List ℕ) (used : ℕ) (t : Tables) (r : ℕ) (words img' : List ℕ) (t' : Tables) : Type 0 where
   pub number : r ≡ openNo (modeOf mode) img used (shortest t)
   pub state : words ≡ stateWords (stateOf (openNo (modeOf mode) img used (shortest t)) (modeOf mode) img used)
+  pub image : img' ≡ img
   pub tables : t' ≡ tablesLeft (openNo (modeOf mode) img used (shortest t)) t (tablesOf img used)

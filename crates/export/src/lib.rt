@@ -69,7 +69,7 @@ pub extern "C" fn rasuvelk_open(
     marks: &mut [u8],
     state: &mut [u64; 121],
 ) -> u32
-    ensures { λ r. ⌜ OpenGives mode (now (image .entry)) used (record { fat = now (fat .entry); fats = now (fats .entry); difats = now (difats .entry); frees = now (frees .entry); marks = now (marks .entry) }) r (now (state .exit)) (record { fat = now (fat .exit); fats = now (fats .exit); difats = now (difats .exit); frees = now (frees .exit); marks = now (marks .exit) }) ⌝ }
+    ensures { λ r. ⌜ OpenGives mode (now (image .entry)) used (record { fat = now (fat .entry); fats = now (fats .entry); difats = now (difats .entry); frees = now (frees .entry); marks = now (marks .entry) }) r (now (state .exit)) (now (image .exit)) (record { fat = now (fat .exit); fats = now (fats .exit); difats = now (difats .exit); frees = now (frees .exit); marks = now (marks .exit) }) ⌝ }
 {
     let opened = State::open(image, used, mode_of(mode), fat, fats, difats, frees, marks);
     let left = opened.state;

@@ -2,13 +2,13 @@
 use Prim.Native.Nat.{ℕ, _≤_, _<_}
 use mathlib.Core.Path.{_≡_, refl}
 use mathlib.Core.Bool.{Bool, true, false}
-use mathlib.Core.List.{List, [], _∷_}
+use mathlib.Core.List.{List, [], _∷_, _++_}
 use mathlib.Core.Logic.{⊎-elim, _≢_, _↔_}
 use native.Mathlib.Omega.{arith}
 use borrow.Author.Tests.{ltb-true, eqb-true}
 use lib.Dec.{eqb, ltb}
 use Rattle.lists.specs.Lists.{choose}
-use Rattle.lists.specs.Rows.{Row, refusal, testOf, ascend, Explained, Judged}
+use Rattle.lists.specs.Rows.{Row, row, refusal, testOf, ascend, Explained, Judged}
 use Rattle.lists.proofs.Cases.{below-or, same-or, not-both, both-left, both-right}
 
 -- one row of an explanation: what its test gives where it holds, and the rows after it where it fails
@@ -42,6 +42,36 @@ least low (r ∷ rs) k a t =
     at true false e t up rest = absurd (not-both t refl)
     at false true e t up rest = omega (arith, rest t)
     at false false e t up rest = omega (arith, rest t)
+
+-- an explanation by one kind of cause, where each is a cause of another kind
+pub explained-by : (A B : ℕ → Type 0) → ((k : ℕ) → A k → B k) → (rs : List Row) → Explained A rs → Explained B rs
+explained-by A B f [] e = tt
+explained-by A B f (r ∷ rs) e = (λ t. f (r .no) (e .0 t)) ▸ λ t. explained-by A B f rs (e .1 t)
+
+-- an explanation of two tables, one after the other
+pub explained-append : (C : ℕ → Type 0) (rs qs : List Row) → Explained C rs → Explained C qs → Explained C (rs ++ qs)
+explained-append C [] qs e f = f
+explained-append C (r ∷ rs) qs e f = e .0 ▸ λ t. explained-append C rs qs (e .1 t) f
+
+-- a test that holds in a table holds with more rows behind it
+pub tested-append : (rs qs : List Row) (k : ℕ) → testOf rs k ≡ true → testOf (rs ++ qs) k ≡ true
+unfolding testOf
+tested-append [] qs k t = absurd (not-both t refl)
+tested-append (r ∷ rs) qs k t = at (eqb (r .no) k) t (tested-append rs qs k)
+  where
+    at : (e : Bool) → choose e (r .holds) (testOf rs k) ≡ true → (testOf rs k ≡ true → testOf (rs ++ qs) k ≡ true) → choose e (r .holds) (testOf (rs ++ qs) k) ≡ true
+    at true t rest = t
+    at false t rest = rest t
+
+-- a test that holds in a table holds in one whose first row is easier and whose others have it too
+pub tested-easier : (n : ℕ) (a b : Bool) (rs qs : List Row) (k : ℕ) → (a ≡ true → b ≡ true) → (testOf rs k ≡ true → testOf qs k ≡ true)
+    → testOf (row n a ∷ rs) k ≡ true → testOf (row n b ∷ qs) k ≡ true
+unfolding testOf
+tested-easier n a b rs qs k first others t = at (eqb n k) t
+  where
+    at : (e : Bool) → choose e a (testOf rs k) ≡ true → choose e b (testOf qs k) ≡ true
+    at true t = first t
+    at false t = others t
 
 module _ {rs : List Row} {C : ℕ → Type 0} (j : Judged rs C) where
   -- a number is given exactly when its cause holds and none with a smaller number does

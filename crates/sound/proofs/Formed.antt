@@ -15,8 +15,7 @@ use Rattle.lists.proofs.Rows.{given-none}
 use Rattle.lists.proofs.Tab.{is-tab}
 use Rattle.consts.specs.Consts.{maxRegular, invalidSector, difatSector, fatSector, freeSector}
 use Rattle.fat.specs.Lists.{fatCount, difatCount, allBelow, different}
-use Rattle.judge.specs.Judge.{allMarked, markedFat, regular, forgiven, pointed, wrongAt, firstWrong, forgivenFat, noneDangles}
-use Rattle.judge.specs.Judge.{fatRows}
+use Rattle.judge.specs.Judge.{allMarked, markedFat, regular, forgiven, pointed, wrongAt, firstWrong, forgivenFat, noneDangles, fatRows}
 use Rattle.fat.proofs.Differing.{below-at, different-at}
 use Rattle.judge.proofs.Marking.{marked-at, marked-of, markedFat-marked}
 use Rattle.judge.proofs.Judging.{pointed-by, pointer-of, forgiven-low, forgiven-kind}

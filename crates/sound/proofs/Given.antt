@@ -3,15 +3,15 @@ use Prim.Native.Nat.{ℕ, zero, suc, _+_, _-_, _*_, _%_, _≤_, _<_}
 use mathlib.Core.Path.{_≡_, refl, sym, _∙_, ap}
 use mathlib.Core.Bool.{Bool, true, false, not}
 use mathlib.Core.List.{List, [], _∷_, _++_}
-use mathlib.Core.Logic.{_⊎_, inl, inr, ⊎-elim, _≢_, _↔_}
+use mathlib.Core.Logic.{_⊎_, ⊎-elim, _≢_, _↔_}
 use native.Mathlib.Omega.{arith}
 use borrow.Author.Tests.{ltb-true, ltb-false, lt-ltb, le-leb, lt-leb, leb-true, leb-false, eqb-true, eqb-false, eq-eqb, ne-eqb, not-true, not-false}
 use lib.Dec.{eqb, leb, ltb}
 use lib.ListN.{length, getD}
 use Rattle.lists.specs.Lists.{choose, both, either, every, tab}
 use Rattle.lists.specs.Rows.{Row, row, testOf, ascend, Explained, Judged}
-use Rattle.lists.proofs.Cases.{below-or, same-or, not-both, both-true, both-left, both-right, both-false-left, both-false-right, either-cases, either-right, either-none, every-false, unlike}
-use Rattle.lists.proofs.Exactly.{_▸_, exactly, accepted}
+use Rattle.lists.proofs.Cases.{refuted, both-fails, every-fails, one-other, other-one, below-or, same-or, not-both, both-true, both-left, both-right, both-false-left, both-false-right, either-cases, either-right, either-none, every-false, unlike}
+use Rattle.lists.proofs.Exactly.{_▸_, exactly, accepted, explained-by, explained-append, tested-append, tested-easier}
 use Rattle.lists.proofs.Tab.{length-tab, getD-tab}
 use Rattle.consts.specs.Consts.{maxRegular, invalidSector, difatSector, freeSector}
 use Rattle.header.specs.Fields.{isStrict}
@@ -22,70 +22,11 @@ use Rattle.header.specs.declared.Header.{Header}
 use Rattle.header.proofs.Given.{differ, strict, read-tested, read-told}
 use Rattle.sectors.specs.Sectors.{perSector, entryOf}
 use Rattle.fat.specs.Lists.{most, sectorsIn, roomOf, fatCount, difatAt, difatsOf, placeAt, fatsOf, allBelow, different, ends, countsRight, chainRight, restFree, idsRight, fatsRight, difatsIn, fatsIn, listsRight, tailFree}
-use Rattle.judge.specs.Judge.{allMarked, regular, pointed, wrongAt, firstWrong, noneDangles}
+use Rattle.judge.specs.Judge.{allMarked, regular, pointed, wrongAt, firstWrong, noneDangles, fatRows}
 use Rattle.alloc.specs.Opening.{rawFat, judgedFat, openFat, tableRows, firstRows, openRows, openNo}
-use Rattle.judge.specs.Judge.{fatRows}
 use Rattle.fat.proofs.Differing.{below-at, different-at}
 use Rattle.judge.proofs.Judging.{pointer-of, pointed-by}
 use Rattle.sound.specs.Causes.{sectorLen, sectorCount, difatPlace, ListsWrong, TailUsed, Unmarked, Bad, FirstBad, Dangles, OpenCause}
-
--- a test that cannot hold fails
-pub refuted : (t : Bool) → (t ≡ true → ⊥) → t ≡ false
-refuted true n = absurd (n refl)
-refuted false n = refl
-
--- of two tests that do not both hold, one fails
-pub both-fails : (a b : Bool) → both a b ≡ false → (a ≡ false) ⊎ (b ≡ false)
-both-fails true b h = inr h
-both-fails false b h = inl refl
-
--- a test that does not hold at each number below n fails at one of them
-pub every-fails : (n : ℕ) (f : ℕ → Bool) → every n f ≡ false → (i : ℕ) × (i < n) × (f i ≡ false)
-unfolding every
-every-fails zero f b = absurd (not-both refl b)
-every-fails (suc n) f b = at (f n) refl b (every-fails n f)
-  where
-    at : (t : Bool) → f n ≡ t → both t (every n f) ≡ false → (every n f ≡ false → (i : ℕ) × (i < n) × (f i ≡ false)) → (i : ℕ) × (i < suc n) × (f i ≡ false)
-    at true e b rest = let r = rest b in (r .0, omega (arith, r .1), r .2)
-    at false e b rest = (n, omega arith, e)
-
--- values below c that are not all v: one is not
-pub one-other : (c : ℕ) (g : ℕ → ℕ) (v : ℕ) → every c (λ j. eqb (g j) v) ≡ false → (j : ℕ) × (j < c) × (g j ≢ v)
-one-other c g v b = let w = every-fails c (λ j. eqb (g j) v) b in (w .0, w .1, eqb-false _ v (w .2))
-
--- a value that is not v: they are not all v
-pub other-one : (c : ℕ) (g : ℕ → ℕ) (v j : ℕ) → j < c → g j ≢ v → every c (λ i. eqb (g i) v) ≡ false
-other-one c g v j l n = every-false c (λ i. eqb (g i) v) j l (ne-eqb (g j) v n)
-
--- an explanation by one kind of cause, where each is a cause of another kind
-pub explained-by : (A B : ℕ → Type 0) → ((k : ℕ) → A k → B k) → (rs : List Row) → Explained A rs → Explained B rs
-explained-by A B f [] e = tt
-explained-by A B f (r ∷ rs) e = (λ t. f (r .no) (e .0 t)) ▸ λ t. explained-by A B f rs (e .1 t)
-
--- an explanation of two tables, one after the other
-pub explained-append : (C : ℕ → Type 0) (rs qs : List Row) → Explained C rs → Explained C qs → Explained C (rs ++ qs)
-explained-append C [] qs e f = f
-explained-append C (r ∷ rs) qs e f = e .0 ▸ λ t. explained-append C rs qs (e .1 t) f
-
--- a test that holds in a table holds with more rows behind it
-pub tested-append : (rs qs : List Row) (k : ℕ) → testOf rs k ≡ true → testOf (rs ++ qs) k ≡ true
-unfolding testOf
-tested-append [] qs k t = absurd (not-both t refl)
-tested-append (r ∷ rs) qs k t = at (eqb (r .no) k) t (tested-append rs qs k)
-  where
-    at : (e : Bool) → choose e (r .holds) (testOf rs k) ≡ true → (testOf rs k ≡ true → testOf (rs ++ qs) k ≡ true) → choose e (r .holds) (testOf (rs ++ qs) k) ≡ true
-    at true t rest = t
-    at false t rest = rest t
-
--- a test that holds in a table holds in one whose first row is easier and whose others have it too
-pub tested-easier : (n : ℕ) (a b : Bool) (rs qs : List Row) (k : ℕ) → (a ≡ true → b ≡ true) → (testOf rs k ≡ true → testOf qs k ≡ true)
-    → testOf (row n a ∷ rs) k ≡ true → testOf (row n b ∷ qs) k ≡ true
-unfolding testOf
-tested-easier n a b rs qs k first others t = at (eqb n k) t
-  where
-    at : (e : Bool) → choose e a (testOf rs k) ≡ true → choose e b (testOf qs k) ≡ true
-    at true t = first t
-    at false t = others t
 
 module _ (n : ℕ) (f : ℕ → ℕ) (c : ℕ) where
   -- a table with a value that is not below n does not pass as below n

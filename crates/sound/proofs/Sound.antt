@@ -2,13 +2,12 @@
 use Prim.Native.Nat.{ℕ}
 use mathlib.Core.Path.{_≡_, refl, sym, _∙_, ap}
 use mathlib.Core.Bool.{true, not}
-use mathlib.Core.List.{List, _++_}
-use mathlib.Core.Logic.{⊎-elim, _≢_, _↔_}
+use mathlib.Core.List.{List}
+use mathlib.Core.Logic.{_↔_}
 use native.Mathlib.Omega.{arith}
 use borrow.Author.Tests.{not-false}
-use Rattle.lists.specs.Rows.{Row, refusal, distinct, fresh}
-use Rattle.lists.proofs.Cases.{same-or}
-use Rattle.lists.proofs.Rows.{pass, given-none, append-given, append-none}
+use Rattle.lists.specs.Rows.{refusal, distinct, fresh}
+use Rattle.lists.proofs.Rows.{pass, given-none, append-accepts}
 use Rattle.header.specs.Fields.{lengthOf}
 use Rattle.header.specs.Read.{headerRows, headerOf}
 use Rattle.header.specs.declared.Header.{Header}
@@ -68,17 +67,6 @@ module _ (S : ℕ) (img : List ℕ) (h : Header) (n : ℕ) where
       let a = strict-sound _ _ _ .1 s in
       let b = strict-sound _ _ _ .1 s' in
       (a .fat-is ∙ sym (b .fat-is), a .fats-are ∙ sym (b .fats-are), a .difats-are ∙ sym (b .difats-are))
-
--- two tables of refusals, one after the other, refuse nothing exactly when neither does
-append-accepts : (rs qs : List Row) → distinct rs ≡ true → (refusal (rs ++ qs) ≡ 0) ↔ ((refusal rs ≡ 0) × (refusal qs ≡ 0))
-append-accepts rs qs d = (there, λ p. append-none rs qs d (p .0) ∙ p .1)
-  where
-    there : refusal (rs ++ qs) ≡ 0 → (refusal rs ≡ 0) × (refusal qs ≡ 0)
-    there z =
-        ⊎-elim
-        (λ (e : refusal rs ≡ 0). (e, sym (append-none rs qs d e) ∙ z))
-        (λ (g : refusal rs ≢ 0). absurd (g (sym (append-given rs qs g) ∙ z)))
-        (same-or (refusal rs) 0)
 
 -- document 01: an image opens strictly exactly when its first rows are passed and it is sound
 pub opens-sound : (img : List ℕ) (used short : ℕ) → (openNo Strict img used short ≡ 0) ↔ ((refusal (firstRows Strict img used short) ≡ 0) × SoundImage img used)

@@ -37,7 +37,7 @@ same-length-5 c = search needs
 
 returns : tie.Need-returns
 returns c =
-    opening-gives _ _ _ _ _ _ _ _ _ (opened c .before .before .before .before .before .before .mode-of .ensures) (opened c .«open» .ensures) (c .number .ensures) (c .before .words-of-state .ensures)
+    opening-gives _ _ _ _ _ _ _ _ _ _ (opened c .before .before .before .before .before .before .mode-of .ensures) (opened c .«open» .ensures) (c .number .ensures) (c .before .words-of-state .ensures)
 
 pub rasuvelk-open-spec : {M : Type 1} → statement M
 rasuvelk-open-spec =

@@ -34,7 +34,7 @@ same-length-5 : tie.Need-same-length-5
 same-length-5 c = search needs
 
 returns : tie.Need-returns
-returns c = face-refused _ _ _ _ _ _ (refused c .open-tables .ensures) (c .before .if1 .taken) _ _ refl (c .none .ensures)
+returns c = face-refused _ _ _ _ _ _ _ (refused c .open-tables .ensures) refl (c .before .if1 .taken) _ _ refl (c .none .ensures)
 
 same-length-6 : tie.Need-same-length-6
 same-length-6 c = search needs
@@ -52,7 +52,7 @@ same-length-10 : tie.Need-same-length-10
 same-length-10 c = search needs
 
 returns-2 : tie.Need-returns-2
-returns-2 c = face-accepted _ _ _ _ _ _ (accepted c .open-tables .ensures) (c .before .if1 .left)
+returns-2 c = face-accepted _ _ _ _ _ _ _ (accepted c .open-tables .ensures) refl (c .before .if1 .left)
 
 pub open-spec : {M : Type 1} → statement M
 open-spec =
