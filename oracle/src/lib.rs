@@ -16,6 +16,8 @@ mod numbers;
 mod set;
 
 #[cfg(oracle)]
+pub mod against;
+#[cfg(oracle)]
 pub mod asked;
 #[cfg(oracle)]
 pub mod image;
@@ -25,8 +27,14 @@ pub mod internal;
 pub mod replay;
 
 pub mod abi;
+pub mod damage;
+pub mod held;
 pub mod inputs;
+pub mod layout;
+pub mod lengths;
+pub mod meant;
 pub mod model;
+pub mod openings;
 pub mod random;
 
 // The four files ask for `fnv::FnvHashSet` and, from the crate's root, for the two traits.
