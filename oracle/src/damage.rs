@@ -73,17 +73,15 @@ fn of_fields(layout: &Layout, image: &[u8]) -> Vec<Edit> {
     edits
 }
 
-/// Edits of the list, of the DIFAT pointers, and of FAT entries, those past n too: at most so many places of each.
+/// Edits of the list, of the DIFAT pointers, and of FAT entries: at most so many places of each.
 fn of_tables(layout: &Layout, most: usize) -> Vec<Edit> {
-    let (listed, entries) = layout.places();
-    let n = layout.n();
+    let (listed, _) = layout.places();
+    let k = layout.fats.len();
     let mut places: Vec<usize> = some(listed.min(109), most).into_iter().map(|p| layout.listed_at(p)).collect();
     places.extend(some(listed.saturating_sub(109), most).into_iter().map(|p| layout.listed_at(109 + p)));
+    places.extend([k.saturating_sub(1), k].iter().filter(|&&p| p < listed).map(|&p| layout.listed_at(p)));
     places.extend((0..=layout.difats.len()).map(|j| layout.pointer_at(j)));
-    places.extend(some(n, most).into_iter().map(|i| layout.entry_at(i)));
-    places.extend(some(entries - n, most).into_iter().map(|i| layout.entry_at(n + i)));
-    let edges = [layout.fats.len(), layout.fats.len().saturating_sub(1)];
-    places.extend(edges.iter().filter(|&&p| p < listed).map(|&p| layout.listed_at(p)));
+    places.extend(some(layout.n(), most).into_iter().map(|i| layout.entry_at(i)));
     let of_sectors = layout.fats.iter().take(2).chain(&layout.difats);
     places.extend(of_sectors.map(|&id| layout.entry_at(id as usize)));
     places.sort_unstable();
@@ -92,10 +90,18 @@ fn of_tables(layout: &Layout, most: usize) -> Vec<Edit> {
     places.into_iter().flat_map(|at| numbers.iter().map(move |&number| Edit::long(at, number))).collect()
 }
 
+/// Edits of the entries past n, one number of each kind: at most so many places.
+fn of_the_tail(layout: &Layout, most: usize) -> Vec<Edit> {
+    let (n, (_, entries)) = (layout.n(), layout.places());
+    let places = some(entries - n, most).into_iter().map(|i| layout.entry_at(n + i));
+    places.flat_map(|at| [0].into_iter().chain(REGULAR_LAST..=FREE).map(move |number| Edit::long(at, number))).collect()
+}
+
 /// Every edit, at most so many places of each kind.
 pub fn edits(layout: &Layout, image: &[u8], most: usize) -> Vec<Edit> {
     let mut all = of_fields(layout, image);
     all.extend(of_tables(layout, most));
+    all.extend(of_the_tail(layout, most));
     all
 }
 

@@ -58,6 +58,16 @@ impl Layout {
         Layout::over(version, &(0..n as u32).collect::<Vec<_>>())
     }
 
+    /// An image of version 3 whose only FAT sector is the first, with these entries.
+    pub fn small(entries: &[u32]) -> Layout {
+        Layout { entries: entries.to_vec(), ..Layout::plain(3, entries.len()) }
+    }
+
+    /// Image Q of the specification, without the room after it.
+    pub fn q() -> Layout {
+        Layout::small(&[FAT, 2, 3, END, FREE, FREE])
+    }
+
     /// Table sectors anywhere; chains, loops, stray marks and free sectors. It opens in both modes.
     pub fn random(random: &mut Random, version: u16, n: usize) -> Layout {
         let mut ids: Vec<u32> = (0..n as u32).collect();

@@ -2,7 +2,7 @@
 
 use crate::damage;
 use crate::held::Case;
-use crate::inputs::{self, put32, END, FREE, REGULAR_LAST};
+use crate::inputs::{put32, END, FREE, REGULAR_LAST};
 use crate::layout::{self, Layout, DIFAT, FAT};
 use crate::random::Random;
 
@@ -19,14 +19,21 @@ pub fn both(version: u16, image: &[u8], see: &mut impl FnMut(&Case)) {
     }
 }
 
-/// Shows what `see` is shown of an image, and looks at the image afterwards.
-fn untouched(image: &mut [u8], show: impl FnOnce(&mut [u8])) {
-    let before = image.to_vec();
-    show(image);
-    assert!(image == before, "the image was written");
+/// A number that hardly two images share.
+fn sum_of(image: &[u8]) -> u64 {
+    let words = image.chunks_exact(8).map(|eight| u64::from_le_bytes(eight.try_into().unwrap()));
+    words.fold(1, |sum, word| (sum.rotate_left(5) ^ word).wrapping_mul(0x9e37_79b9_7f4a_7c15))
 }
 
-/// Good images of version 3 around every multiple of 128 up to 16,384, and of version 4 around three of 1,024.
+/// Shows an image, and looks at it afterwards.
+fn untouched(image: &mut [u8], show: impl FnOnce(&mut [u8])) {
+    let before = sum_of(image);
+    show(image);
+    assert!(sum_of(image) == before, "the image was written");
+}
+
+/// Good images of version 3 around every multiple of 128 up to 16,384, and of version 4 around three of 1,024, each in
+/// one mode; shorter ones in both.
 pub fn good(random: &mut Random, see: &mut impl FnMut(&Case)) {
     let around = |each: usize, last: usize| {
         (0..=last).flat_map(move |times| [(times * each).wrapping_sub(1), times * each, times * each + 1])
@@ -35,7 +42,10 @@ pub fn good(random: &mut Random, see: &mut impl FnMut(&Case)) {
     for (version, n) in third.chain(around(1024, 3).map(|n| (4, n))) {
         if n <= 16_384 {
             let layout = Layout::random(random, version, n);
-            untouched(&mut layout.noisy(random), |image| both(version, image, see));
+            let mode = random.below(2) as u32;
+            untouched(&mut layout.noisy(random), |image| {
+                see(&Case { image, used: image.len(), mode, lengths: [n; 5] });
+            });
         }
     }
     for n in 0..300 {
@@ -57,32 +67,33 @@ const DAMAGED: [(u16, usize, usize, usize); 26] = [
     (3, 127, 200, 1),
     (3, 128, 200, 1),
     (3, 129, 200, 1),
-    (3, 256, 300, 1),
+    (3, 256, 300, 2),
     (3, 257, 300, 2),
-    (3, 1_000, 30, 2),
-    (3, 13_951, 5, 20),
-    (3, 13_952, 5, 20),
-    (3, 13_953, 5, 5),
-    (3, 13_954, 5, 20),
-    (3, 14_080, 5, 20),
-    (3, 14_081, 5, 20),
-    (3, 16_383, 5, 20),
-    (3, 16_384, 5, 20),
+    (3, 1_000, 30, 4),
+    (3, 13_951, 5, 40),
+    (3, 13_952, 5, 40),
+    (3, 13_953, 5, 8),
+    (3, 13_954, 5, 40),
+    (3, 14_080, 5, 40),
+    (3, 14_081, 5, 40),
+    (3, 16_383, 5, 40),
+    (3, 16_384, 5, 40),
     (4, 1, 30, 1),
     (4, 6, 30, 1),
-    (4, 1_023, 12, 4),
-    (4, 1_024, 12, 4),
-    (4, 1_025, 12, 4),
-    (4, 2_049, 8, 8),
+    (4, 1_023, 12, 8),
+    (4, 1_024, 12, 8),
+    (4, 1_025, 12, 8),
+    (4, 2_049, 8, 16),
 ];
 
-/// Images with one damage each: every field, list entries, pointers, FAT entries of every kind, entries past n.
-pub fn damaged(random: &mut Random, see: &mut impl FnMut(&Case)) {
+/// Images with one damage each: every field, list entries, pointers, FAT entries of every kind, entries past n. Of long
+/// images so many times more are shown.
+pub fn damaged(random: &mut Random, times: usize, see: &mut impl FnMut(&Case)) {
     for (version, n, most, thin) in DAMAGED {
         let layout = Layout::random(random, version, n);
         let mut image = layout.noisy(random);
         let mut edits = damage::edits(&layout, &image, most);
-        edits.retain(|_| random.once_in(thin));
+        edits.retain(|_| random.once_in(thin.div_ceil(times)));
         untouched(&mut image, |image| damage::each(&edits, image, &mut |image| both(version, image, see)));
     }
 }
@@ -105,27 +116,35 @@ pub fn broken(random: &mut Random, times: usize, see: &mut impl FnMut(&Case)) {
     }
 }
 
-/// Images of small numbers everywhere: the header's list and counts, and every sector.
+/// A number for an entry of an image with n sectors.
+fn entry(random: &mut Random, n: usize) -> u32 {
+    match random.below(8) {
+        0 => REGULAR_LAST - 1 + random.below(7) as u32,
+        1 => random.pick(&[FREE, END, FAT, DIFAT]),
+        2 => random.word(),
+        _ => random.below(n + 1) as u32,
+    }
+}
+
+/// Images with random entries among good ones, and now and then random numbers in the header.
 pub fn random(random: &mut Random, times: usize, see: &mut impl FnMut(&Case)) {
     for _ in 0..times {
-        let n = random.below(6);
-        let mut image = inputs::good(3, 0).to_vec();
-        let mut number = |odds: usize| match random.below(odds) {
-            0 => REGULAR_LAST + random.below(6) as u32,
-            1 => random.word(),
-            2 => FREE,
-            3 => END,
-            4 => FAT,
-            _ => random.below(n + 1) as u32,
-        };
-        for at in [44, 68, 72, 76, 80] {
-            put32(&mut image, at, number(10));
+        let n = if random.once_in(20) { random.below(300) } else { random.below(9) };
+        let mut layout = Layout::random(random, 3, n);
+        let odds = random.pick(&[1, 3, 10, 100]);
+        for i in 0..n {
+            if random.once_in(odds) {
+                layout.entries[i] = entry(random, n);
+            }
         }
-        put32(&mut image, 72, number(10) % 2);
-        put32(&mut image, 44, number(10) % 2);
-        image.resize(512 * (n + 1), 0xff);
-        for i in 1..=n {
-            (0..n).for_each(|entry| put32(&mut image, 512 * i + 4 * entry, number(9)));
+        let mut image = layout.noisy(random);
+        if random.once_in(4) {
+            for at in [44, 68, 72, 76, 80] {
+                let number = entry(random, n);
+                if random.once_in(4) {
+                    put32(&mut image, at, number);
+                }
+            }
         }
         both(3, &image, see);
     }
@@ -133,7 +152,7 @@ pub fn random(random: &mut Random, times: usize, see: &mut impl FnMut(&Case)) {
 
 /// Every image of n sectors whose FAT sector is `place`, its entries from these: 0 to n, the last regular value, and
 /// the five special ones.
-fn every_fat(version: u16, n: usize, place: usize, see: &mut impl FnMut(&Case)) {
+pub fn every_fat(version: u16, n: usize, place: usize, see: &mut impl FnMut(&Case)) {
     let mut letters: Vec<u32> = (0..=n as u32).collect();
     letters.extend(REGULAR_LAST..=FREE);
     let mut layout = Layout::plain(version, n);
@@ -148,15 +167,19 @@ fn every_fat(version: u16, n: usize, place: usize, see: &mut impl FnMut(&Case)) 
     }
 }
 
-/// Every image of at most 4 sectors with the FAT sector at each place, of 5 with it at the first; version 4 up to 3.
+/// Every image of at most 4 sectors with the FAT sector at each place; of version 4 up to 3.
 pub fn every_small(see: &mut impl FnMut(&Case)) {
     for n in 0..=4 {
         (0..n.max(1)).for_each(|place| every_fat(3, n, place, see));
     }
-    every_fat(3, 5, 0, see);
     for n in 0..=3 {
         (0..n.max(1)).for_each(|place| every_fat(4, n, place, see));
     }
+}
+
+/// Every image of 5 sectors whose FAT sector is the first.
+pub fn every_five(see: &mut impl FnMut(&Case)) {
+    every_fat(3, 5, 0, see);
 }
 
 /// Every small header: counts, first DIFAT sector, the first two places of the list; over FATs of two sectors.

@@ -17,7 +17,7 @@ fn good_images() {
 #[test]
 fn damaged_images() {
     let mut tally = Tally::default();
-    openings::damaged(&mut Random::new("opening damaged"), &mut |case| tally.see(case));
+    openings::damaged(&mut Random::new("opening damaged"), 1, &mut |case| tally.see(case));
     println!("{tally:?}");
 }
 
@@ -39,6 +39,13 @@ fn random_images() {
 fn every_small_image() {
     let mut tally = Tally::default();
     openings::every_small(&mut |case| tally.see(case));
+    println!("{tally:?}");
+}
+
+#[test]
+fn every_image_of_five() {
+    let mut tally = Tally::default();
+    openings::every_five(&mut |case| tally.see(case));
     println!("{tally:?}");
 }
 
