@@ -62,6 +62,13 @@ impl Tally {
         self.answers.iter().sum()
     }
 
+    /// Each of these answers was met so often.
+    pub fn has(&self, numbers: impl IntoIterator<Item = usize>, times: u64) {
+        for number in numbers {
+            assert!(self.answers[number] >= times, "{number} in {self:?}");
+        }
+    }
+
     /// Holds one opening.
     pub fn see(&mut self, case: &Case) {
         let ours = held::same(case);

@@ -1,7 +1,7 @@
 //! Damages to an image: one number put somewhere else than what stands there.
 
 use crate::inputs::{EDGES, FREE, LONGS, REGULAR_LAST, SHORTS};
-use crate::layout::Layout;
+use crate::layout::{Layout, DIFATS_AT, FATS_AT};
 use crate::random::Random;
 
 /// Four bytes for a place of an image. Swapped in twice, the image is as before.
@@ -95,6 +95,24 @@ fn of_the_tail(layout: &Layout, most: usize) -> Vec<Edit> {
     let (n, (_, entries)) = (layout.n(), layout.places());
     let places = some(entries - n, most).into_iter().map(|i| layout.entry_at(n + i));
     places.flat_map(|at| [0].into_iter().chain(REGULAR_LAST..=FREE).map(move |number| Edit::long(at, number))).collect()
+}
+
+/// Edits of the counts, of every pointer to a DIFAT sector, of its first and last places, of those where the list ends,
+/// and of the entries of the DIFAT sectors and of two FAT sectors.
+pub fn of_difats(layout: &Layout) -> Vec<Edit> {
+    let (k, d) = (layout.fats.len(), layout.difats.len());
+    let (listed, _) = layout.places();
+    let mut places = vec![FATS_AT, DIFATS_AT];
+    places.extend((0..=d).map(|j| layout.pointer_at(j)));
+    places.extend([108, 109, 110, k - 1, k, k + 1, listed - 1].map(|p| layout.listed_at(p)));
+    let of_sectors = layout.difats.iter().chain([&layout.fats[0], &layout.fats[k - 1]]);
+    places.extend(of_sectors.map(|&id| layout.entry_at(id as usize)));
+    places.sort_unstable();
+    places.dedup();
+    let (k, d) = (k as u32, d as u32);
+    let mut numbers = numbers(layout);
+    numbers.extend([k - 1, k + 1, d + 1]);
+    places.into_iter().flat_map(|at| numbers.iter().map(move |&number| Edit::long(at, number))).collect()
 }
 
 /// Every edit, at most so many places of each kind.

@@ -98,6 +98,17 @@ pub fn damaged(random: &mut Random, times: usize, see: &mut impl FnMut(&Case)) {
     }
 }
 
+/// Images with a DIFAT sector, damaged in everything that names it or stands in it.
+pub fn difats(random: &mut Random, see: &mut impl FnMut(&Case)) {
+    for n in [13_953, 16_384] {
+        let layout = Layout::random(random, 3, n);
+        let edits = damage::of_difats(&layout);
+        untouched(&mut layout.noisy(random), |image| {
+            damage::each(&edits, image, &mut |image| both(3, image, see));
+        });
+    }
+}
+
 /// Images with several damages each, some of them lent with room after the used part.
 pub fn broken(random: &mut Random, times: usize, see: &mut impl FnMut(&Case)) {
     for _ in 0..times {
@@ -109,7 +120,8 @@ pub fn broken(random: &mut Random, times: usize, see: &mut impl FnMut(&Case)) {
         let edits = damage::edits(&layout, &image, 20);
         damage::several(random, &edits, &mut image);
         image.resize(used + random.pick(&[0, 0, 1, 511, 512, 4096, 9000]), 0xff);
-        let lengths = [room(version, image.len()) + random.below(3); 5];
+        let room = room(version, image.len());
+        let lengths = std::array::from_fn(|_| room + random.below(6));
         for mode in [0, 1] {
             see(&Case { image: &image, used, mode, lengths });
         }

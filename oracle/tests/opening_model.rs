@@ -42,8 +42,16 @@ fn good_images() {
 fn damaged_images() {
     let mut tally = Tally::default();
     openings::damaged(&mut Random::new("model damaged"), 4, &mut |case| tally.see(case));
-    println!("{:?}", tally.0);
+    assert!(tally.compared() > 75_000, "{:?}", tally.0);
     tally.has([0, 2, 3, 4, 5, 6, 7, 8, 9, 12, 13, 14, 15, 16, 17, 18], 100);
+}
+
+#[test]
+fn damaged_difat_sectors() {
+    let mut tally = Tally::default();
+    openings::difats(&mut Random::new("model difats"), &mut |case| tally.see(case));
+    assert!(tally.compared() > 700, "{:?}", tally.0);
+    tally.has([0, 9, 12, 14], 10);
 }
 
 #[test]
@@ -66,35 +74,38 @@ fn random_images() {
 fn every_small_image() {
     let mut tally = Tally::default();
     openings::every_small(&mut |case| tally.see(case));
-    println!("{:?}", tally.0);
+    let expected = [43_382, 0, 0, 0, 0, 0, 0, 0, 0, 0, 0, 0, 0, 0, 58_942, 2_364, 5_702, 16_746, 2_676];
+    assert_eq!((tally.compared(), tally.0), (129_812, expected));
 }
 
 #[test]
 fn every_small_header() {
     let mut tally = Tally::default();
     openings::every_header(&mut |case| tally.see(case));
-    println!("{:?}", tally.0);
+    let expected = [68, 0, 0, 0, 0, 0, 0, 0, 0, 97_200, 0, 0, 33_940, 0, 12, 0, 0, 0, 0];
+    assert_eq!((tally.compared(), tally.0), (131_220, expected));
 }
 
 #[test]
 fn used_lengths() {
     let mut tally = Tally::default();
     lengths::used(&mut Random::new("model used"), &mut |case| tally.see(case));
-    println!("{:?}", tally.0);
+    assert_eq!(tally.compared(), 5_004);
+    tally.has([0, 1, 10, 12], 200);
 }
 
 #[test]
 fn table_lengths() {
     let mut tally = Tally::default();
     lengths::tables(&mut Random::new("model tables"), &mut |case| tally.see(case));
-    println!("{:?}", tally.0);
+    assert_eq!((tally.compared(), tally.0[0], tally.0[11]), (21_970, 3_036, 18_934));
 }
 
 #[test]
 fn long_lent() {
     let mut tally = Tally::default();
     lengths::long_lent(&mut Random::new("model long"), &mut |case| tally.see(case));
-    println!("{:?}", tally.0);
+    assert_eq!((tally.0[0], tally.0[10], tally.0[11]), (450, 200, 300));
 }
 
 /// Any mode but 0 is strict, and the state says 1.
