@@ -102,7 +102,7 @@ impl Tally {
         let bytes = &case.image[..case.used];
         let rust = asked::read_header(bytes, case.mode);
         if rust.0 == 0 {
-            // The Rust goes on with a header that is not there.
+            // The Rust reads the list as if nothing but FREE followed.
             let other = forgetful(&bytes[..HEADER]).expect("nothing is forgotten");
             assert_eq!((number, rust), (9, asked::read_header(&other, case.mode)), "{}", case.told());
             self.forgotten += 1;
