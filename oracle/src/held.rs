@@ -2,6 +2,7 @@
 
 use crate::abi::{self, State, Tables};
 use crate::model;
+use std::hint::black_box;
 
 /// What is opened: an image, how much of it is used, the mode, and the lengths of the tables.
 #[derive(Clone, Copy)]
@@ -21,7 +22,7 @@ pub struct Answer {
 }
 
 /// Images of at most so many bytes are looked at after every call.
-const LOOKED_AT: usize = 1 << 16;
+const LOOKED_AT: usize = 1 << 18;
 
 /// Tables of these lengths with no zero in them.
 pub fn rubbish(lengths: [usize; 5]) -> Tables {
@@ -42,7 +43,9 @@ pub fn ask(case: &Case) -> Answer {
     let mut state = [0x3333_4444_5555_6666; 121];
     let copy = (case.image.len() <= LOOKED_AT).then(|| case.image.to_vec());
     let number = abi::open(case.image, case.used, case.mode, &mut tables, &mut state);
-    assert!(copy.is_none_or(|copy| copy == case.image), "the image was written");
+    // A lent image is one that the compiler takes to stay as it is: it is read anew.
+    let after = black_box(case.image);
+    assert!(copy.is_none_or(|copy| copy == after), "the image was written");
     match number {
         0 => {}
         1..=11 => assert!(tables == rubbish(case.lengths), "{number} touched a table"),

@@ -2,7 +2,7 @@
 
 use crate::held::Case;
 use crate::layout::Layout;
-use crate::openings::room;
+use crate::openings::{room, untouched};
 use crate::random::Random;
 
 /// Used lengths around every boundary of an image with n sectors of this length, lent so long.
@@ -75,7 +75,7 @@ pub fn tables(random: &mut Random, see: &mut impl FnMut(&Case)) {
     }
     for (version, n) in [(3, 127), (3, 128), (3, 129), (4, 1_024)] {
         let layout = Layout::random(random, version, n);
-        one_by_one(version, &layout.noisy(random), (n + 1) * layout.length(), see);
+        untouched(&mut layout.noisy(random), |image| one_by_one(version, image, image.len(), see));
     }
 }
 
@@ -101,13 +101,14 @@ pub fn long_lent(random: &mut Random, see: &mut impl FnMut(&Case)) {
         for sectors in [16_384, 16_385, 16_386, 16_400] {
             if sectors * 512 >= used {
                 image.resize(sectors * 512, 0);
-                one_by_one(3, &image, used, see);
+                untouched(&mut image, |image| one_by_one(3, image, used, see));
             }
         }
     }
     for n in [16_385, 16_386] {
-        let image = Layout::plain(3, n).bytes();
-        one_by_one(3, &image, image.len(), see);
-        one_by_one(3, &image, image.len() - 511, see);
+        untouched(&mut Layout::plain(3, n).bytes(), |image| {
+            one_by_one(3, image, image.len(), see);
+            one_by_one(3, image, image.len() - 511, see);
+        });
     }
 }

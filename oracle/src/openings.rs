@@ -5,6 +5,7 @@ use crate::held::Case;
 use crate::inputs::{put32, END, FREE, REGULAR_LAST};
 use crate::layout::{self, Layout, DIFAT, FAT};
 use crate::random::Random;
+use std::hint::black_box;
 
 /// The sectors that a lent image has room for.
 pub fn room(version: u16, lent: usize) -> usize {
@@ -21,12 +22,12 @@ pub fn both(version: u16, image: &[u8], see: &mut impl FnMut(&Case)) {
 
 /// A number that hardly two images share.
 fn sum_of(image: &[u8]) -> u64 {
-    let words = image.chunks_exact(8).map(|eight| u64::from_le_bytes(eight.try_into().unwrap()));
+    let words = black_box(image).chunks_exact(8).map(|eight| u64::from_le_bytes(eight.try_into().unwrap()));
     words.fold(1, |sum, word| (sum.rotate_left(5) ^ word).wrapping_mul(0x9e37_79b9_7f4a_7c15))
 }
 
 /// Shows an image, and looks at it afterwards.
-fn untouched(image: &mut [u8], show: impl FnOnce(&mut [u8])) {
+pub fn untouched(image: &mut [u8], show: impl FnOnce(&mut [u8])) {
     let before = sum_of(image);
     show(image);
     assert!(sum_of(image) == before, "the image was written");
