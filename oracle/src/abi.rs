@@ -1,7 +1,8 @@
 //! The functions of the archive `libexport.a`, or of the model with the feature `model`.
 //!
 //! A header is 117 words: the version's number, directory sectors, FAT sectors, first directory, first
-//! MiniFAT, MiniFAT sectors, first DIFAT, DIFAT sectors, and the 109 entries of the list.
+//! MiniFAT, MiniFAT sectors, first DIFAT, DIFAT sectors, and the 109 entries of the list. The state of an opened
+//! image is 121 words: the mode, 1 for strict, the used length, the sectors, the free ones, and the header's words.
 
 /// A header as numbers.
 pub type Words = [u32; 117];
@@ -26,6 +27,63 @@ const fn refused() -> Words {
     words
 }
 
+/// The state of an opened image as numbers.
+pub type State = [u64; 121];
+
+/// Places of a state's numbers in its words; the header's words follow.
+pub const MODE: usize = 0;
+pub const USED: usize = 1;
+pub const SECTORS: usize = 2;
+pub const FREES: usize = 3;
+pub const HEADER: usize = 4;
+
+/// What stands beside a refused opening: strict, and the header beside a refusal.
+pub const REFUSED_STATE: State = state_of(1, 0, 0, 0, &REFUSED);
+
+/// A state of these numbers.
+pub const fn state_of(mode: u64, used: u64, sectors: u64, frees: u64, header: &Words) -> State {
+    let mut state = [0; 121];
+    state[MODE] = mode;
+    state[USED] = used;
+    state[SECTORS] = sectors;
+    state[FREES] = frees;
+    let mut place = 0;
+    while place < header.len() {
+        state[HEADER + place] = header[place] as u64;
+        place += 1;
+    }
+    state
+}
+
+/// The tables that are lent to an opening: FAT, FAT sectors, DIFAT sectors, free sectors, marks.
+#[derive(Clone, Debug, PartialEq, Eq)]
+pub struct Tables {
+    pub fat: Vec<u32>,
+    pub fats: Vec<u32>,
+    pub difats: Vec<u32>,
+    pub frees: Vec<u32>,
+    pub marks: Vec<u8>,
+}
+
+impl Tables {
+    /// Tables of these lengths, all zero.
+    pub fn zero(lengths: [usize; 5]) -> Tables {
+        let [fat, fats, difats, frees, marks] = lengths;
+        Tables {
+            fat: vec![0; fat],
+            fats: vec![0; fats],
+            difats: vec![0; difats],
+            frees: vec![0; frees],
+            marks: vec![0; marks],
+        }
+    }
+
+    /// The length of each.
+    pub fn lengths(&self) -> [usize; 5] {
+        [self.fat.len(), self.fats.len(), self.difats.len(), self.frees.len(), self.marks.len()]
+    }
+}
+
 /// Kinds of an item of `prettify`.
 pub const NONE: u32 = 0;
 pub const FREE: u32 = 1;
@@ -35,14 +93,14 @@ pub const DIFAT: u32 = 4;
 pub const RANGE: u32 = 5;
 
 #[cfg(feature = "model")]
-pub use crate::model::{kind_of, prettify, read_header, sector_text, write_header};
+pub use crate::model::{kind_of, open, prettify, read_header, sector_text, write_header};
 
 #[cfg(not(feature = "model"))]
-pub use archive::{kind_of, prettify, read_header, sector_text, write_header};
+pub use archive::{kind_of, open, prettify, read_header, sector_text, write_header};
 
 #[cfg(not(feature = "model"))]
 mod archive {
-    use super::Words;
+    use super::{State, Tables, Words};
 
     extern "C" {
         fn rasuvelk_read_header(bytes: *const u8, len: usize, mode: u32, words: *mut Words) -> u32;
@@ -50,6 +108,23 @@ mod archive {
         fn rasuvelk_kind_of(entry: u32) -> u32;
         fn rasuvelk_prettify(sectors: *const u32, len: usize, at: usize, item: *mut [u64; 3]) -> u32;
         fn rasuvelk_sector_text(kind: u32, a: u64, b: u64, out: *mut [u8; 32]) -> usize;
+        fn rasuvelk_open(
+            image: *const u8,
+            image_len: usize,
+            used: usize,
+            mode: u32,
+            fat: *mut u32,
+            fat_len: usize,
+            fats: *mut u32,
+            fats_len: usize,
+            difats: *mut u32,
+            difats_len: usize,
+            frees: *mut u32,
+            frees_len: usize,
+            marks: *mut u8,
+            marks_len: usize,
+            state: *mut State,
+        ) -> u32;
     }
 
     /// Reads a header; 0, or the number of the refusal. Mode 0 is permissive.
@@ -80,5 +155,30 @@ mod archive {
     pub fn sector_text(kind: u32, a: u64, b: u64, out: &mut [u8; 32]) -> usize {
         // SAFETY: `out` is whole and lent alone.
         unsafe { rasuvelk_sector_text(kind, a, b, out) }
+    }
+
+    /// Opens an image of which `used` bytes are used; 0, or the number of the refusal. Mode 0 is permissive.
+    pub fn open(image: &[u8], used: usize, mode: u32, tables: &mut Tables, state: &mut State) -> u32 {
+        // SAFETY: each pointer and the length after it are those of one live slice; the tables are vectors of
+        // their own and, like `state`, lent alone.
+        unsafe {
+            rasuvelk_open(
+                image.as_ptr(),
+                image.len(),
+                used,
+                mode,
+                tables.fat.as_mut_ptr(),
+                tables.fat.len(),
+                tables.fats.as_mut_ptr(),
+                tables.fats.len(),
+                tables.difats.as_mut_ptr(),
+                tables.difats.len(),
+                tables.frees.as_mut_ptr(),
+                tables.frees.len(),
+                tables.marks.as_mut_ptr(),
+                tables.marks.len(),
+                state,
+            )
+        }
     }
 }

@@ -1,6 +1,7 @@
 //! What the Rust of cfb answers, in the words and numbers of the specification.
 
-use crate::abi::{self, Words};
+use crate::abi::{self, Tables, Words};
+use crate::image;
 use crate::internal::consts::{self, Sector};
 use crate::internal::{Header, Validation, Version};
 use std::io::{Error, ErrorKind};
@@ -17,15 +18,31 @@ const CAUSES: [(&str, u32); 8] = [
     ("Initial DIFAT array refers to invalid sector", 9),
 ];
 
-/// The refusal that an error of the header's reader is.
-fn number_of(error: &Error) -> u32 {
+/// What the messages of `Allocator::new` have in them, and the refusal that each is.
+const FAT_CAUSES: [(&str, u32); 4] = [
+    (" is not marked as such in the FAT", 14),
+    (" points to ", 15),
+    (" pointed to twice", 16),
+    (" is not a valid FAT entry", 17),
+];
+
+/// The refusal that an error is, if its cause has a number.
+fn numbered(error: &Error) -> Option<u32> {
     if error.kind() == ErrorKind::UnexpectedEof {
-        return 1;
+        return Some(1);
     }
     let message = error.to_string();
-    let cause = CAUSES.iter().find(|cause| message.starts_with(cause.0));
     assert_eq!(error.kind(), ErrorKind::InvalidData, "{message}");
-    cause.unwrap_or_else(|| panic!("no refusal begins so: {message}")).1
+    let cause = match message.strip_prefix("Malformed FAT (") {
+        Some(rest) => FAT_CAUSES.iter().find(|cause| rest.contains(cause.0)),
+        None => CAUSES.iter().find(|cause| message.starts_with(cause.0)),
+    };
+    cause.map(|cause| cause.1)
+}
+
+/// The refusal that an error of the header's reader is.
+fn number_of(error: &Error) -> u32 {
+    numbered(error).unwrap_or_else(|| panic!("no refusal begins so: {error}"))
 }
 
 /// The mode of a number: 0 is permissive.
@@ -44,6 +61,33 @@ pub fn read_header(bytes: &[u8], mode: u32) -> (u32, Words) {
         Ok(header) => (0, words_of(&header)),
         Err(error) => (number_of(&error), abi::REFUSED),
     }
+}
+
+/// What the Rust makes of an opening.
+#[derive(Clone, Debug, PartialEq, Eq)]
+pub enum Opening {
+    /// Opened: its tables, each without zeros after it. The marks are read off its FAT.
+    Opened(Tables),
+    /// Refused by a cause that has a number.
+    Refused(u32),
+    /// Refused by another: a listed sector that is not there, or what the stand-ins can't load.
+    Unnumbered(String),
+}
+
+/// What the Rust makes of an image whose bytes are all used.
+pub fn open(bytes: &[u8], mode: u32) -> Opening {
+    let (mut allocator, loaded) = match image::judge(bytes, mode_of(mode)) {
+        Ok(opened) => opened,
+        Err(error) => return numbered(&error).map_or(Opening::Unnumbered(error.to_string()), Opening::Refused),
+    };
+    let fat = image::fat_of(&allocator);
+    let mut marks = vec![0; fat.len()];
+    for &entry in fat.iter().filter(|&&entry| entry <= consts::MAX_REGULAR_SECTOR) {
+        marks[entry as usize] = 1;
+    }
+    let count = fat.iter().filter(|&&entry| entry == consts::FREE_SECTOR).count();
+    let frees = image::last_free(&mut allocator, count).unwrap();
+    Opening::Opened(Tables { fat, fats: loaded.fat_sectors, difats: loaded.difat_sectors, frees, marks })
 }
 
 /// The words of a header.

@@ -1,7 +1,7 @@
 //! Images over a byte vector, opened through alloc.rs and chain.rs, and a look at what these keep private.
 
 use crate::internal::{consts, Allocator, Header, SectorInit, Sectors, Validation, Version};
-use std::io::{Cursor, Result};
+use std::io::{Cursor, Empty, Result, Seek, Write};
 
 /// The allocator over a byte vector.
 pub type Store = Cursor<Vec<u8>>;
@@ -51,10 +51,10 @@ pub fn image_q() -> Vec<u8> {
 }
 
 /// The lists of DIFAT sectors and FAT sectors, and the first n FAT entries.
-struct Tables {
-    difat_sectors: Vec<u32>,
-    fat_sectors: Vec<u32>,
-    fat: Vec<u32>,
+pub struct Tables {
+    pub difat_sectors: Vec<u32>,
+    pub fat_sectors: Vec<u32>,
+    pub fat: Vec<u32>,
 }
 
 /// The entries of a sector, or an error where the image has no such sector.
@@ -94,16 +94,30 @@ fn load(image: &[u8], header: &Header, n: usize) -> Result<Tables> {
     Ok(Tables { difat_sectors, fat_sectors, fat })
 }
 
-/// Opens an image whose bytes are all used: header, tables, `Allocator::new`.
-pub fn open(image: Vec<u8>, mode: Validation) -> Result<Allocator<Store>> {
-    let header = Header::read_from(&mut image.as_slice(), mode)?;
-    let used = image.len();
-    if used < header.version.sector_len() {
+/// The version and the tables of an image whose bytes are all used.
+pub fn loaded(image: &[u8], mode: Validation) -> Result<(Version, Tables)> {
+    let header = Header::read_from(&mut &image[..], mode)?;
+    let (size, used) = (header.version.sector_len(), image.len());
+    if used < size {
         invalid_data!("No whole header in {} bytes", used);
     }
-    let tables = load(&image, &header, used / header.version.sector_len() - 1)?;
-    let sectors = Sectors::new(header.version, used as u64, Cursor::new(image));
+    Ok((header.version, load(image, &header, used / size - 1)?))
+}
+
+/// Opens an image whose bytes are all used: header, tables, `Allocator::new`.
+pub fn open(image: Vec<u8>, mode: Validation) -> Result<Allocator<Store>> {
+    let (version, tables) = loaded(&image, mode)?;
+    let sectors = Sectors::new(version, image.len() as u64, Cursor::new(image));
     Allocator::new(sectors, tables.difat_sectors, tables.fat_sectors, tables.fat, mode)
+}
+
+/// Opens an image without a copy of it: the store behind is empty, and forgets what is written to it. The tables are
+/// those that were loaded, before `Allocator::new` mends its own.
+pub fn judge(image: &[u8], mode: Validation) -> Result<(Allocator<Empty>, Tables)> {
+    let (version, tables) = loaded(image, mode)?;
+    let sectors = Sectors::new(version, image.len() as u64, std::io::empty());
+    let [difats, fats, fat] = [&tables.difat_sectors, &tables.fat_sectors, &tables.fat].map(Vec::clone);
+    Ok((Allocator::new(sectors, difats, fats, fat, mode)?, tables))
 }
 
 /// The bytes of the image.
@@ -118,13 +132,13 @@ fn number_in(message: &str, before: &str, after: &str) -> u32 {
 }
 
 /// The number of FAT entries in memory: `next` names it when asked for an entry that no FAT has.
-pub fn fat_len(allocator: &Allocator<Store>) -> usize {
+pub fn fat_len<F>(allocator: &Allocator<F>) -> usize {
     let error = allocator.next(u32::MAX).unwrap_err();
     number_in(&error.to_string(), "has only ", " ") as usize
 }
 
 /// The FAT in memory: `next` gives a link, and names any other entry as it refuses it.
-pub fn fat_of(allocator: &Allocator<Store>) -> Vec<u32> {
+pub fn fat_of<F>(allocator: &Allocator<F>) -> Vec<u32> {
     let entry = |id| match allocator.next(id) {
         Ok(entry) => entry,
         Err(error) => number_in(&error.to_string(), "(", ")"),
@@ -133,8 +147,13 @@ pub fn fat_of(allocator: &Allocator<Store>) -> Vec<u32> {
 }
 
 /// The free list, its end last. Takes all of it and gives it back: list, FAT and bytes are then as before.
-pub fn free_list(allocator: &mut Allocator<Store>) -> Result<Vec<u32>> {
+pub fn free_list<F: Write + Seek>(allocator: &mut Allocator<F>) -> Result<Vec<u32>> {
     let count = fat_of(allocator).iter().filter(|&&entry| entry == consts::FREE_SECTOR).count();
+    last_free(allocator, count)
+}
+
+/// The last so many of the free list, which has as many.
+pub fn last_free<F: Write + Seek>(allocator: &mut Allocator<F>, count: usize) -> Result<Vec<u32>> {
     let mut list = Vec::with_capacity(count);
     for _ in 0..count {
         list.push(allocator.begin_chain(SectorInit::Keep)?);

@@ -4,8 +4,11 @@
 //! - `asked`: what the four files answer, in the numbers of the specification.
 //! - `abi`: the functions of the archive, or of the model with the feature `model`.
 //! - `model`: the same functions, written from the specification alone.
+//! - `held`: one opening, asked of the library and of the model; `against` (`cfg(oracle)`): of the Rust too.
 //! - `replay` (`cfg(oracle)`): the fixed list of answers for a program that has no Rust at hand.
 //! - `inputs`, `random`: headers and lists to compare on, the same at every run.
+//! - `layout`, `damage`, `openings`, `lengths`: images to open, whole and damaged, and how they are lent.
+//! - `meant`: where the Rust's reader of headers may differ.
 
 #[cfg(oracle)]
 #[macro_use]
@@ -16,6 +19,8 @@ mod numbers;
 mod set;
 
 #[cfg(oracle)]
+pub mod against;
+#[cfg(oracle)]
 pub mod asked;
 #[cfg(oracle)]
 pub mod image;
@@ -25,8 +30,14 @@ pub mod internal;
 pub mod replay;
 
 pub mod abi;
+pub mod damage;
+pub mod held;
 pub mod inputs;
+pub mod layout;
+pub mod lengths;
+pub mod meant;
 pub mod model;
+pub mod openings;
 pub mod random;
 
 // The four files ask for `fnv::FnvHashSet` and, from the crate's root, for the two traits.

@@ -5,6 +5,10 @@
 
 use crate::abi::{self, Words};
 
+mod opening;
+
+pub use opening::open;
+
 const HEADER: usize = 512;
 const LISTED: usize = 109;
 const SIGNATURE: [u8; 8] = [0xd0, 0xcf, 0x11, 0xe0, 0xa1, 0xb1, 0x1a, 0xe1];
