@@ -14,7 +14,7 @@ use Rattle.consts.specs.declared.Sector.the-variants.{Free, End, Fat, Difat, Ra
 use Rattle.consts.proofs.Decimal.{decimal-of-usize}
 use Rattle.consts.proofs.Sound.{Sound, prettify-sound, entriesOf, prettify-keeps-entries}
 use Rattle.consts.proofs.Texts.{Held, text-fits}
-use Rattle.list.specs.Listing.{lineOf, linesOf, sectorsWord, freeWord, refusedWord, countsLine, refusedLine}
+use Rattle.list.specs.Listing.{lineOf, linesOf, counted, sectorsWord, freeWord, refusedWord, countsLine, refusedLine}
 use Rattle.list.proofs.Puts.{line-length, counted-length, counts-length, refused-length}
 
 -- the entries that an item stands for: one at least, and so many that the code can hold the item
@@ -55,11 +55,14 @@ items-fit xs small l =
     let n : length (flatMap entriesOf (prettifyOf xs)) ≡ length xs = ap length e in
     omega (arith, lines-fit (prettifyOf xs) (prettify-sound xs small) (omega arith))
 
+-- a word and a number have at most 20 bytes beside the word
+pub counted-fit : (word : List ℕ) (n : ℕ) → n < 2 ^ 64 → length (counted word n) ≤ length word + 20
+counted-fit word n h = omega (arith, counted-length word n, decimal-of-usize n h)
+
 -- the line of the counts has at most 55 bytes
 pub counts-fit : (n free : ℕ) → n < 2 ^ 64 → free < 2 ^ 64 → length (countsLine n free) ≤ 55
-counts-fit n free h k =
-    omega (arith, counts-length n free, counted-length sectorsWord n, counted-length freeWord free, decimal-of-usize n h, decimal-of-usize free k)
+counts-fit n free h k = omega (arith, counts-length n free, counted-fit sectorsWord n h, counted-fit freeWord free k)
 
 -- the line of a refusal has at most 29
 pub refused-fit : (k : ℕ) → k < 2 ^ 64 → length (refusedLine k) ≤ 29
-refused-fit k h = omega (arith, refused-length k, counted-length refusedWord k, decimal-of-usize k h)
+refused-fit k h = omega (arith, refused-length k, counted-fit refusedWord k h)

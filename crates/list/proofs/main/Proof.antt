@@ -1,53 +1,41 @@
+-- `main` is safe, and what it hands over to be written is the listing of what was read: the text stands at the front of its buffer. Assumes nothing.
+use mathlib.Core.Path.{sym}
+use lib.Seq.{length-take-le}
+use Rattle.list.proofs.Opened.{put-front}
 use borrow.Author.Needs.{needs}
 use Rattle.list.proofs.main.Statement.{statement}
 use Rattle.list.proofs.main.Tie as tie
-use Rattle.list.proofs.main.Reads as reads
-use Rattle.list.proofs.main.Lts as lts
-use Rattle.io.proofs.read_full.Reads as read-full-reads
-use Rattle.list.proofs.listing.list_text.Reads as list-text-reads
-use Rattle.list.proofs.write_listing.Reads as write-listing-reads
 
--- src/main.rt:22:41
 slice-aggregate-read-full : tie.Need-slice-aggregate-read-full
 slice-aggregate-read-full c = search needs
 
--- src/main.rt:22:9
 read-full-requires : tie.Need-read-full-requires
 read-full-requires c κs = search needs
 
--- src/main.rt:24:25
 array-share-prefix-input : tie.Need-array-share-prefix-input
 array-share-prefix-input c = search needs
 
--- src/main.rt:24:25
 slice-aggregate-list-text : tie.Need-slice-aggregate-list-text
 slice-aggregate-list-text c = search needs
 
--- src/main.rt:24:9
 list-text-requires : tie.Need-list-text-requires
 list-text-requires c κs = search needs
 
--- src/main.rt:25:19
 array-share-prefix-input-2 : tie.Need-array-share-prefix-input-2
 array-share-prefix-input-2 c = search needs
 
--- src/main.rt:25:19
 slice-aggregate-write-listing : tie.Need-slice-aggregate-write-listing
 slice-aggregate-write-listing c = search needs
 
--- src/main.rt:25:32
 array-share-prefix-text : tie.Need-array-share-prefix-text
-array-share-prefix-text c = ?
+array-share-prefix-text c = put-front (c .before .list-text .ensures) .0
 
--- src/main.rt:25:32
 slice-aggregate-write-listing-2 : tie.Need-slice-aggregate-write-listing-2
-slice-aggregate-write-listing-2 c = ?
+slice-aggregate-write-listing-2 c = sym (length-take-le _ _ (put-front (c .before .before .list-text .ensures) .0))
 
--- src/main.rt:25:5
 write-listing-requires : tie.Need-write-listing-requires
-write-listing-requires c κs = ?
+write-listing-requires c κs = put-front (c .before .before .list-text .ensures) .1
 
--- src/main.rt:20:1
 returns : tie.Need-returns
 returns c = search needs
 

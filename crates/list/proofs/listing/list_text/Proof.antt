@@ -1,60 +1,64 @@
+-- `listing::list_text` meets its contract: each of the three answers is the listing in its case, and 127 sectors leave room. Assumes nothing.
+use mathlib.Core.Path.{sym}
+use native.Mathlib.Omega.{arith}
+use lib.Seq.{length-take-le}
+use Rattle.list.proofs.Opened.{long-listing, refused-listing, accepted-within, accepted-short, accepted-listing}
 use borrow.Author.Needs.{needs}
 use Rattle.list.proofs.listing.list_text.Statement.{statement}
 use Rattle.list.proofs.listing.list_text.Tie as tie
-use Rattle.list.proofs.listing.list_text.Reads as reads
-use Rattle.list.proofs.listing.list_text.Lts as lts
-use Rattle.list.proofs.listing.number_of.Reads as number-of-reads
-use Rattle.list.proofs.listing.open_fat.Reads as open-fat-reads
-use Rattle.list.proofs.text.put_listed.Reads as put-listed-reads
-use Rattle.list.proofs.text.put_refused.Reads as put-refused-reads
 
--- src/listing.rt:66:9
+-- the test of the length, behind the opening
+abbrev tested : tie.After-open-fat → tie.Else1
+tested c = c .before .before
+
+-- the opening, behind the counts of its verdict
+abbrev opened : tie.After-verdict → tie.After-open-fat
+opened c = c .before .before
+
 put-refused-requires : tie.Need-put-refused-requires
 put-refused-requires c κs = search needs
 
--- src/listing.rt:66:9
 returns : tie.Need-returns
-returns c = ?
+returns c = long-listing _ (c .before .before .if1 .taken) (c .put-refused .ensures)
 
--- src/listing.rt:69:9
 open-fat-requires : tie.Need-open-fat-requires
 open-fat-requires c κs = search needs
 
--- src/listing.rt:70:29
 enum-known-verdict : tie.Need-enum-known-verdict
 enum-known-verdict c = search needs
 
--- src/listing.rt:71:28
 enum-told : tie.Need-enum-told
 enum-told c = search needs
 
--- src/listing.rt:71:33
 number-of-requires : tie.Need-number-of-requires
 number-of-requires c κs = search needs
 
--- src/listing.rt:71:9
 put-refused-requires-2 : tie.Need-put-refused-requires-2
 put-refused-requires-2 c κs = search needs
 
--- src/listing.rt:71:9
 returns-2 : tie.Need-returns-2
-returns-2 c = ?
+returns-2 c =
+    let told = c .before .before .before in
+    let answered = told .before .before in
+    refused-listing _ (tested answered .if1 .left) (answered .open-fat .ensures) (told .enum-told .given .1) (c .before .number-of .ensures) (c .put-refused2 .ensures)
 
--- src/listing.rt:73:36
 array-share-prefix-fat : tie.Need-array-share-prefix-fat
-array-share-prefix-fat c = ?
+array-share-prefix-fat c = let known = c .before .before in accepted-within (opened known .open-fat .ensures) (known .verdict .given .1)
 
--- src/listing.rt:73:36
 slice-aggregate-put-listed : tie.Need-slice-aggregate-put-listed
-slice-aggregate-put-listed c = ?
+slice-aggregate-put-listed c =
+    let known = c .before .before .before in
+    sym (length-take-le _ _ (accepted-within (opened known .open-fat .ensures) (known .verdict .given .1)))
 
--- src/listing.rt:73:5
 put-listed-requires : tie.Need-put-listed-requires
-put-listed-requires c κs = ?
+put-listed-requires c κs =
+    let known = c .before .before .before in
+    omega (arith, accepted-short (tested (opened known) .if1 .left) (opened known .open-fat .ensures) (known .verdict .given .1))
 
--- src/listing.rt:62:1
 returns-3 : tie.Need-returns-3
-returns-3 c = ?
+returns-3 c =
+    let known = c .before .before .before .before in
+    accepted-listing _ (tested (opened known) .if1 .left) (opened known .open-fat .ensures) (known .verdict .given .1) (c .put-listed .ensures)
 
 pub list-text-spec : {M : Type 1} → statement M
 list-text-spec =

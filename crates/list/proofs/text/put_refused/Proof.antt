@@ -1,34 +1,43 @@
+-- `text::put_refused` meets its contract: its two parts are put one after the other, and 29 bytes hold them. Assumes nothing.
+use Prim.Native.Nat.{_≤_}
+use native.Mathlib.Omega.{arith}
+use lib.ListN.{length}
+use Rattle.list.specs.Listing.{counted, refusedWord}
+use Rattle.list.proofs.Fits.{counted-fit, refused-fit}
+use Rattle.list.proofs.Puts.{refused-put}
 use borrow.Author.Needs.{needs}
 use Rattle.list.proofs.text.put_refused.Statement.{statement}
 use Rattle.list.proofs.text.put_refused.Tie as tie
-use Rattle.list.proofs.text.put_refused.Reads as reads
-use Rattle.list.proofs.text.put_refused.Lts as lts
-use Rattle.list.proofs.text.put_counted.Reads as put-counted-reads
-use Rattle.list.proofs.text.put_word.Reads as put-word-reads
 
--- src/text.rt:94:33
+-- the function's entry, behind the first call
+abbrev entry : tie.After-put-counted → tie.Start
+entry c = c .before .before .before .before
+
+number-short : (c : tie.Start) → length (counted refusedWord (c .args .no)) ≤ 28
+number-short c = counted-fit refusedWord _ (omega arith)
+
 slice-aggregate-put-counted : tie.Need-slice-aggregate-put-counted
 slice-aggregate-put-counted c = search needs
 
--- src/text.rt:94:9
 put-counted-requires : tie.Need-put-counted-requires
 put-counted-requires c κs = search needs
 
--- src/text.rt:95:22
 slice-aggregate-put-word : tie.Need-slice-aggregate-put-word
 slice-aggregate-put-word c = search needs
 
--- src/text.rt:95:5
 put-word-requires : tie.Need-put-word-requires
-put-word-requires c κs = ?
+put-word-requires c κs =
+    let put = c .before .before .before .before in
+    omega (arith, put .put-counted .ensures, number-short (entry put))
 
--- src/text.rt:90:1
 same-length : tie.Need-same-length
 same-length c = search needs
 
--- src/text.rt:90:1
 returns : tie.Need-returns
-returns c = ?
+returns c =
+    let fed = c .before .before in
+    let put = fed .before .before .before .before .before in
+    refused-put _ (omega (arith, entry put .pre, refused-fit (entry put .args .no) (omega arith))) (put .put-counted .ensures) (fed .put-word .ensures)
 
 pub put-refused-spec : {M : Type 1} → statement M
 put-refused-spec =
