@@ -1,12 +1,11 @@
 -- How long a listing can be: an item's line has at most 27 bytes, and an item stands for one entry at least. Assumes nothing.
 use Prim.Native.Nat.{ℕ, _+_, _-_, _*_, _^_, _≤_, _<_}
-use mathlib.Core.Path.{_≡_, refl, _∙_, sym, ap}
+use mathlib.Core.Path.{_≡_, refl, ap}
 use mathlib.Core.List.{List, [], _∷_, _++_, flatMap, List·Memᴰ, List·Memᴰ·head, List·Memᴰ·tail}
 use native.Mathlib.Omega.{arith}
 use lib.ListN.{length, replicate, length-append, length-replicate}
 use Rattle.lists.specs.Lists.{Below}
 use Rattle.lists.proofs.Tab.{length-tab}
-use Rattle.consts.specs.Consts.{invalidSector}
 use Rattle.consts.specs.Pretty.{prettifyOf}
 use Rattle.consts.specs.Text.{textOf}
 use Rattle.consts.specs.declared.Sector.{Sector}
@@ -17,7 +16,7 @@ use Rattle.consts.proofs.Texts.{Held, text-fits}
 use Rattle.list.specs.Listing.{lineOf, linesOf, counted, sectorsWord, freeWord, refusedWord, countsLine, refusedLine}
 use Rattle.list.proofs.Puts.{line-length, counted-length, counts-length, refused-length}
 
--- the entries that an item stands for: one at least, and so many that the code can hold the item
+-- an item stands for one entry at least
 some-entries : (s : Sector) → Sound s → 1 ≤ length (entriesOf s)
 unfolding entriesOf
 some-entries (Free n) h = omega (arith, length-replicate {A = ℕ} n 0xffff_ffff)
@@ -26,6 +25,7 @@ some-entries (Fat n) h = omega (arith, length-replicate {A = ℕ} n 0xffff_fffd)
 some-entries (Difat n) h = omega (arith, length-replicate {A = ℕ} n 0xffff_fffc)
 some-entries (Range a b) h = omega (arith, length-tab (λ i. a + i) (b + 1 - a), h .0)
 
+-- an item that stands for fewer than 2 ^ 64 entries is one that the code can hold
 few-held : (s : Sector) → Sound s → length (entriesOf s) < 2 ^ 64 → Held s
 unfolding entriesOf
 few-held (Free n) h l = omega (arith, length-replicate {A = ℕ} n 0xffff_ffff)

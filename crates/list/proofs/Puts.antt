@@ -71,6 +71,7 @@ pub record Listing (b : List ℕ) (from : ℕ) (fat : List ℕ) (i at : ℕ) (no
   pub put : Put b from done at now
   pub whole : linesOf (prettifyOf fat) ≡ done ++ linesOf (prettifyOf (drop i fat))
 
+-- nothing is put yet
 pub listing-begun : (b : List ℕ) (from : ℕ) (fat : List ℕ) → Listing b from fat 0 from b
 listing-begun b from fat = record { done = []; put = record { place = sym (add-zero from); kept = refl; buffer = sym (splice-nil b from) }; whole = refl }
 
@@ -113,10 +114,12 @@ none-left {fat = fat} {i = i} l e =
     let all : linesOf (prettifyOf fat) ≡ l .done = l .whole ∙ ap (λ (ss : List Sector). l .done ++ linesOf ss) e ∙ append-nil (l .done) in
     rw all (l .put)
 
+-- no item is left where `prettify` has none
 pub listing-done : {b : List ℕ} {from : ℕ} {fat : List ℕ} {i at : ℕ} {now : List ℕ} {item : Item} → Listing b from fat i at now → item ≡ itemAt fat i → item ≡ Done
     → Put b from (linesOf (prettifyOf fat)) at now
 listing-done {fat = fat} {i = i} l e d = none-left l (item-done fat i (sym e ∙ d))
 
+-- no item is left at the end of the FAT
 pub listing-over : {b : List ℕ} {from : ℕ} {fat : List ℕ} {i at : ℕ} {now : List ℕ} → Listing b from fat i at now → length fat ≤ i → Put b from (linesOf (prettifyOf fat)) at now
 listing-over {fat = fat} {i = i} l h = none-left l (item-done fat i (sym (item-past fat i h)))
 
@@ -126,18 +129,19 @@ pub counted-put : (word : List ℕ) (n : ℕ) {b : List ℕ} {at p r : ℕ} {mid
 unfolding counted
 counted-put word n h x y = put-after x y (omega (arith, h))
 
--- how long they are
+-- how long a word and a number are
 pub counted-length : (word : List ℕ) (n : ℕ) → length (counted word n) ≡ length word + length (decimalOf n)
 unfolding counted
 counted-length word n = length-append word (decimalOf n)
 
--- the line of the counts
+-- how long the line of the counts is
 pub counts-length : (n free : ℕ) → length (countsLine n free) ≡ length (counted sectorsWord n) + (length (counted freeWord free) + 1)
 unfolding countsLine
 counts-length n free =
     let a : length (counted freeWord free ++ (10 ∷ [])) ≡ length (counted freeWord free) + 1 = length-append (counted freeWord free) (10 ∷ []) in
     omega (arith, length-append (counted sectorsWord n) (counted freeWord free ++ (10 ∷ [])))
 
+-- the line of the counts: its three parts
 pub counts-put : (n free : ℕ) {b : List ℕ} {p q r : ℕ} {b1 b2 b3 : List ℕ} → length (countsLine n free) ≤ length b
     → Put b 0 (counted sectorsWord n) p b1 → Put b1 p (counted freeWord free) q b2 → Put b2 q (10 ∷ []) r b3 → Put b 0 (countsLine n free) r b3
 unfolding countsLine
@@ -146,11 +150,12 @@ counts-put n free h x y z =
     let whole : length (countsLine n free) ≡ length (counted sectorsWord n) + (length (counted freeWord free) + 1) = counts-length n free in
     put-after x (put-after y z (omega (arith, h, x .place, x .kept))) (omega (arith, h))
 
--- the line of a refusal
+-- how long the line of a refusal is
 pub refused-length : (k : ℕ) → length (refusedLine k) ≡ length (counted refusedWord k) + 1
 unfolding refusedLine
 refused-length k = length-append (counted refusedWord k) (10 ∷ [])
 
+-- the line of a refusal: its two parts
 pub refused-put : (k : ℕ) {b : List ℕ} {p r : ℕ} {mid after : List ℕ} → length (refusedLine k) ≤ length b
     → Put b 0 (counted refusedWord k) p mid → Put mid p (10 ∷ []) r after → Put b 0 (refusedLine k) r after
 unfolding refusedLine
