@@ -267,3 +267,12 @@ pub fn text_of(s: Sector) -> Text
     let len = put_sector(&mut bytes, s);
     Text { bytes, len }
 }
+
+// The decimal digits of a number, as a text.
+pub fn digits_of(n: usize) -> Text
+    ensures { λ r. ⌜ r ≡ written (decimalOf n) ⌝ }
+{
+    let mut bytes = [0u8; 32];
+    let len = put_decimal(&mut bytes, 0, n);
+    Text { bytes, len }
+}

@@ -1,0 +1,4 @@
+pub mod Examples
+pub mod Fits
+pub mod Opened
+pub mod Puts

@@ -1,0 +1,87 @@
+-- What the program writes, as a function of the bytes that it reads (document 01, the end of "Cases from the shelf"). Assumes nothing.
+use Prim.Native.Nat.{ℕ}
+use mathlib.Core.List.{List, [], _∷_, _++_}
+use lib.Dec.{eqb, ltb}
+use lib.ListN.{length}
+use Rattle.lists.specs.Lists.{choose}
+use Rattle.consts.specs.Pretty.{prettifyOf}
+use Rattle.consts.specs.Text.{decimalOf, textOf}
+use Rattle.consts.specs.declared.Sector.{Sector}
+use Rattle.header.specs.Fields.{lengthOf}
+use Rattle.header.specs.Read.{headerOf}
+use Rattle.header.specs.declared.Validation.the-variants.{Strict}
+use Rattle.alloc.specs.Lists.{most, sectorsIn}
+use Rattle.alloc.specs.Opening.{Tables, openNo, openTables}
+
+-- document 01, "one item a line": the text of an item and a line feed
+unfoldable pub lineOf : Sector → List ℕ
+unfolding textOf
+lineOf s = textOf s ++ (10 ∷ [])
+
+-- document 01, "one item a line": the lines of all items
+unfoldable pub linesOf : List Sector → List ℕ
+unfolding lineOf
+linesOf [] = []
+linesOf (s ∷ ss) = lineOf s ++ linesOf ss
+
+-- document 01, the text for Q: the word "sectors " in ASCII
+abbrev pub sectorsWord : List ℕ
+sectorsWord = 115 ∷ 101 ∷ 99 ∷ 116 ∷ 111 ∷ 114 ∷ 115 ∷ 32 ∷ []
+
+-- document 01, the text for Q: the word " free " in ASCII
+abbrev pub freeWord : List ℕ
+freeWord = 32 ∷ 102 ∷ 114 ∷ 101 ∷ 101 ∷ 32 ∷ []
+
+-- document 01, "writes `refused`": the word "refused " in ASCII
+abbrev pub refusedWord : List ℕ
+refusedWord = 114 ∷ 101 ∷ 102 ∷ 117 ∷ 115 ∷ 101 ∷ 100 ∷ 32 ∷ []
+
+-- document 01, the text for Q: a word and a number in decimal
+unfoldable pub counted : List ℕ → ℕ → List ℕ
+unfolding decimalOf
+counted word n = word ++ decimalOf n
+
+-- document 01, the text for Q: the line `sectors N free M`
+unfoldable pub countsLine : ℕ → ℕ → List ℕ
+unfolding counted
+countsLine n free = counted sectorsWord n ++ (counted freeWord free ++ (10 ∷ []))
+
+-- document 01, "`refused` and the number on one line"
+unfoldable pub refusedLine : ℕ → List ℕ
+unfolding counted
+refusedLine k = counted refusedWord k ++ (10 ∷ [])
+
+-- document 01, "lists the FAT as `prettify` does": the line of the counts, and the lines of the items
+unfoldable pub listed : ℕ → ℕ → List ℕ → List ℕ
+unfolding countsLine linesOf prettifyOf
+listed n free fat = countsLine n free ++ linesOf (prettifyOf fat)
+
+-- document 01, S: the sector length of an image
+unfoldable pub sectorLen : List ℕ → ℕ
+unfolding headerOf
+sectorLen img = lengthOf (headerOf img .version)
+
+-- document 01, n: the sectors of an image of which every byte is used
+unfoldable pub sectorCount : List ℕ → ℕ
+unfolding sectorLen sectorsIn
+sectorCount img = sectorsIn (sectorLen img) (length img)
+
+-- document 01, "Opening an image": the tables of an image of which every byte is used
+unfoldable pub tablesOf : List ℕ → Tables
+unfolding sectorLen sectorCount openTables headerOf
+tablesOf img = openTables (sectorLen img) img (headerOf img) (sectorCount img)
+
+-- document 01, "Opening an image": the number that the strict opening of all bytes ends with, where no table is too short
+unfoldable pub strictNo : List ℕ → ℕ
+unfolding openNo
+strictNo img = openNo Strict img (length img) most
+
+-- document 01, "opens it strictly and lists the FAT .. or writes `refused` and the number"
+unfoldable pub answer : List ℕ → List ℕ
+unfolding strictNo listed sectorCount tablesOf refusedLine
+answer img = choose (eqb (strictNo img) 0) (listed (sectorCount img) (length (tablesOf img .frees)) (tablesOf img .fat)) (refusedLine (strictNo img))
+
+-- document 01, "an image of at most 64 KiB .. longer input is `refused 1`": all that is written
+unfoldable pub listing : List ℕ → List ℕ
+unfolding answer refusedLine
+listing img = choose (ltb 65536 (length img)) (refusedLine 1) (answer img)
