@@ -6,7 +6,7 @@ use oracle::abi::{self, Tables, REFUSED_STATE};
 use oracle::damage::Edit;
 use oracle::held::{self, Answer, Case};
 use oracle::inputs::{END, FREE};
-use oracle::layout::{Layout, FAT};
+use oracle::layout::{Layout, DIFAT, FAT};
 use oracle::random::Random;
 use oracle::{lengths, openings};
 
@@ -226,4 +226,42 @@ fn the_first_bad_sector() {
         assert_eq!(open_q(&edits, 1).number, strict, "{edits:x?}");
         assert_eq!(open_q(&edits, 0).number, permissive, "{edits:x?}");
     }
+}
+
+/// What is left of an image of version 3 after one edit: the answers, permissive and strict.
+fn edited(layout: &Layout, at: usize, number: u32) -> [Answer; 2] {
+    let mut image = layout.bytes();
+    Edit::long(at, number).swap(&mut image);
+    let lengths = [layout.n(); 5];
+    [0, 1].map(|mode| held::same(&Case { image: &image, used: image.len(), mode, lengths }))
+}
+
+/// After the last DIFAT sector, or in the header where there is none, stands END or FREE; the state then has END.
+#[test]
+fn ends_of_the_difat() {
+    for n in [0, 1, 13_953] {
+        let layout = Layout::plain(3, n);
+        let first = layout.difats.first().copied().unwrap_or(END);
+        let at = layout.pointer_at(layout.difats.len());
+        for (end, number) in [(END, 0), (FREE, 0), (0xffff_fffb, 12), (DIFAT, 12), (FAT, 12), (0, 12)] {
+            for answer in edited(&layout, at, end) {
+                assert_eq!(answer.number, number, "{n} {end:x}");
+                let expected = if number == 0 { first.into() } else { 0 };
+                assert_eq!(answer.state[abi::HEADER + abi::FIRST_DIFAT], expected);
+            }
+        }
+    }
+}
+
+/// A sector that is listed as DIFAT and as FAT is not marked as both; a permissive table marks it FAT.
+#[test]
+fn listed_as_both() {
+    let layout = Layout::plain(3, 13_953);
+    assert_eq!(layout.difats, [110]);
+    let [permissive, strict] = edited(&layout, layout.listed_at(5), 110);
+    assert_eq!((permissive.number, strict.number), (0, 14));
+    let tables = permissive.tables;
+    assert_eq!([tables.fats[5], tables.difats[0], tables.fat[110]], [110, 110, FAT]);
+    // The entries of sectors 640 to 767 are what the DIFAT sector holds: an id, FREE, END.
+    assert_eq!([tables.fat[640], tables.fat[641], tables.fat[767]], [109, FREE, END]);
 }
