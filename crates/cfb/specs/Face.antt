@@ -37,11 +37,12 @@ noState = record { mode = Strict; used = 0; sectors = 0; free = 0; header = none
 
 -- document 01, n: the sectors in so many bytes of an image
 unfoldable pub sectorsOf : List ℕ → ℕ → ℕ
+unfolding sectorsIn
 sectorsOf img used = sectorsIn (lengthOf (headerOf img .version)) used
 
 -- the tables of an image of which so many bytes are used
 unfoldable pub tablesOf : List ℕ → ℕ → Tables
-unfolding sectorsOf
+unfolding sectorsOf openTables
 tablesOf img used = openTables (lengthOf (headerOf img .version)) img (headerOf img) (sectorsOf img used)
 
 -- document 01: the state that an opening which ends with k hands out

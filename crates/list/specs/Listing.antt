@@ -7,11 +7,10 @@ use Rattle.lists.specs.Lists.{choose}
 use Rattle.consts.specs.Pretty.{prettifyOf}
 use Rattle.consts.specs.Text.{decimalOf, textOf}
 use Rattle.consts.specs.declared.Sector.{Sector}
-use Rattle.header.specs.Fields.{lengthOf}
-use Rattle.header.specs.Read.{headerOf}
 use Rattle.header.specs.declared.Validation.the-variants.{Strict}
-use Rattle.alloc.specs.Lists.{most, sectorsIn}
-use Rattle.alloc.specs.Opening.{Tables, openNo, openTables}
+use Rattle.fat.specs.Lists.{most}
+use Rattle.alloc.specs.Opening.{openNo}
+use Rattle.cfb.specs.Face.{sectorsOf, tablesOf}
 
 -- document 01, "one item a line": the text of an item and a line feed
 unfoldable pub lineOf : Sector → List ℕ
@@ -56,32 +55,19 @@ unfoldable pub listed : ℕ → ℕ → List ℕ → List ℕ
 unfolding countsLine linesOf prettifyOf
 listed n free fat = countsLine n free ++ linesOf (prettifyOf fat)
 
--- document 01, S: the sector length of an image
-unfoldable pub sectorLen : List ℕ → ℕ
-unfolding headerOf
-sectorLen img = lengthOf (headerOf img .version)
-
--- document 01, n: the sectors of an image of which every byte is used
-unfoldable pub sectorCount : List ℕ → ℕ
-unfolding sectorLen sectorsIn
-sectorCount img = sectorsIn (sectorLen img) (length img)
-
--- document 01, "Opening an image": the tables of an image of which every byte is used
-unfoldable pub tablesOf : List ℕ → Tables
-unfolding sectorLen sectorCount openTables headerOf
-tablesOf img = openTables (sectorLen img) img (headerOf img) (sectorCount img)
-
 -- document 01, "Opening an image": the number that the strict opening of all bytes ends with, where no table is too short
 unfoldable pub strictNo : List ℕ → ℕ
 unfolding openNo
 strictNo img = openNo Strict img (length img) most
 
 -- document 01, "opens it strictly and lists the FAT .. or writes `refused` and the number"
-unfoldable pub answer : List ℕ → List ℕ
-unfolding strictNo listed sectorCount tablesOf refusedLine
-answer img = choose (eqb (strictNo img) 0) (listed (sectorCount img) (length (tablesOf img .frees)) (tablesOf img .fat)) (refusedLine (strictNo img))
+unfoldable pub shown : List ℕ → List ℕ
+unfolding strictNo listed sectorsOf tablesOf refusedLine
+shown img =
+    choose (eqb (strictNo img) 0) (listed (sectorsOf img (length img)) (length (tablesOf img (length img) .frees)) (tablesOf img (length img) .fat))
+    (refusedLine (strictNo img))
 
 -- document 01, "an image of at most 64 KiB .. longer input is `refused 1`": all that is written
 unfoldable pub listing : List ℕ → List ℕ
-unfolding answer refusedLine
-listing img = choose (ltb 65536 (length img)) (refusedLine 1) (answer img)
+unfolding shown refusedLine
+listing img = choose (ltb 65536 (length img)) (refusedLine 1) (shown img)

@@ -30,8 +30,8 @@ enum-known-verdict c = search needs
 enum-told : tie.Need-enum-told
 enum-told c = search needs
 
-number-of-requires : tie.Need-number-of-requires
-number-of-requires c κs = search needs
+number-requires : tie.Need-number-requires
+number-requires c κs = search needs
 
 put-refused-requires-2 : tie.Need-put-refused-requires-2
 put-refused-requires-2 c κs = search needs
@@ -40,7 +40,7 @@ returns-2 : tie.Need-returns-2
 returns-2 c =
     let told = c .before .before .before in
     let answered = told .before .before in
-    refused-listing _ (tested answered .if1 .left) (answered .open-fat .ensures) (told .enum-told .given .1) (c .before .number-of .ensures) (c .put-refused2 .ensures)
+    refused-listing _ (tested answered .if1 .left) (answered .open-fat .ensures) (told .enum-told .given .1) (c .before .number .ensures) (c .put-refused2 .ensures)
 
 array-share-prefix-fat : tie.Need-array-share-prefix-fat
 array-share-prefix-fat c = let known = c .before .before in accepted-within (opened known .open-fat .ensures) (known .verdict .given .1)
@@ -69,7 +69,7 @@ list-text-spec =
     open-fat-requires
     enum-known-verdict
     enum-told
-    number-of-requires
+    number-requires
     put-refused-requires-2
     returns-2
     array-share-prefix-fat
