@@ -1,0 +1,2 @@
+-- The steps of a walk. Assumes nothing.
+use Prim.Native.Nat.{ℕ}
