@@ -62,16 +62,13 @@ leaves-going {fat} {start} {k} p out = record {
   fresh = λ j pos l e. let z : j ≡ 0 = leaves-different p out j 0 l (omega arith) (e ∙ sym (stepped-none fat start)) in omega arith;
 }
 
-pub going-one : {fat : List ℕ} {start : ℕ} → start < length fat → Going fat start 1
-going-one {fat} {start} h = record {
-  path = record { within = λ j l. let z : j ≡ 0 = omega arith in rw (z, stepped-none) h };
-  fresh = λ j pos l. absurd (omega arith);
-}
+pub going-none : {fat : List ℕ} {start : ℕ} → Going fat start 0
+going-none = record { path = record { within = λ j l. absurd (omega arith) }; fresh = λ j pos l. absurd (omega arith) }
 
-pub going-more : {fat : List ℕ} {start k : ℕ} → Going fat start k → stepped fat start k < length fat → stepped fat start k ≢ start → Going fat start (suc k)
+pub going-more : {fat : List ℕ} {start k : ℕ} → Going fat start k → stepped fat start k < length fat → (0 < k → stepped fat start k ≢ start) → Going fat start (suc k)
 going-more {fat} {start} {k} g h d = record {
   path = record { within = λ j l. ⊎-elim (λ (b : j < k). g .path .within j b) (λ (a : k ≤ j). let e : j ≡ k = omega arith in rw e h) (below-or j k) };
-  fresh = λ j pos l. ⊎-elim (λ (b : j < k). g .fresh j pos b) (λ (a : k ≤ j). let e : j ≡ k = omega arith in rw e d) (below-or j k);
+  fresh = λ j pos l. ⊎-elim (λ (b : j < k). g .fresh j pos b) (λ (a : k ≤ j). let e : j ≡ k = omega arith in rw e (d (omega arith))) (below-or j k);
 }
 
 -- where no sector is pointed to twice, steps that go on meet different sectors: two that are one would have been one a step before, and so back to the start

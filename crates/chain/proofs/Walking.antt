@@ -6,19 +6,19 @@ use mathlib.Core.List.{List, [], _∷_}
 use mathlib.Core.Logic.{_⊎_, inl, inr, ⊎-elim, _≢_}
 use native.Mathlib.Omega.{arith}
 use native.Mathlib.Nat.{add-zero, add-suc, suc-add, zero-add}
-use borrow.Author.Tests.{lt-ltb, le-ltb, le-leb, eq-eqb, ne-eqb}
+use borrow.Author.Tests.{ltb-true, lt-ltb, le-ltb, le-leb, eq-eqb, ne-eqb}
 use lib.Dec.{eqb, ltb}
 use lib.ListN.{length, getD}
 use Rattle.lists.specs.Lists.{choose, both, either, tab, tabFrom}
-use Rattle.lists.proofs.Cases.{below-or, same-or, both-true, both-false-right}
+use Rattle.lists.proofs.Cases.{below-or, same-or, not-both, both-true, both-right, both-false-right}
 use Rattle.consts.specs.Consts.{maxRegular, endOfChain}
 use Rattle.judge.specs.Judge.{regular}
 use Rattle.chain.specs.Walk.{Outcome, lists, refuses, ahead, leads, walkFrom, walkOf}
 use Rattle.chain.specs.Steps.{stepped, Path, Returns, Breaks}
-use Rattle.chain.proofs.Steps.{stepped-next, stepped-none, path-shorter, leaves-going, leaves-most, Going, going-one, going-more}
+use Rattle.chain.proofs.Steps.{stepped-next, stepped-none, path-shorter, leaves-going, leaves-most, Going, going-none, going-more}
 
 -- an entry, in a table of fewer sectors than there are regular numbers: END and a sector lead on, any other does not
-leads-end : (n e : ℕ) → e ≡ endOfChain → leads n e ≡ true
+pub leads-end : (n e : ℕ) → e ≡ endOfChain → leads n e ≡ true
 unfolding leads
 leads-end n e h = rw (eq-eqb e endOfChain h)
 
@@ -26,9 +26,27 @@ leads-sector : (n e : ℕ) → n ≤ maxRegular → e < n → leads n e ≡ true
 unfolding leads regular
 leads-sector n e few h = rw (ne-eqb e endOfChain (omega arith)) (both-true (le-leb e maxRegular (omega arith)) (lt-ltb e n h))
 
+-- and told by the test
+pub leads-true : (n e : ℕ) → leads n e ≡ true → e ≢ endOfChain → e < n
+unfolding leads
+leads-true n e t d = ltb-true e n (both-right (regular e) (ltb e n) (rw (ne-eqb e endOfChain d) at t))
+
+pub leads-false : (n e : ℕ) → n ≤ maxRegular → leads n e ≡ false → (e ≢ endOfChain) × (n ≤ e)
+leads-false n e few f = (
+  λ h. not-both (leads-end n e h) f,
+  ⊎-elim (λ (l : e < n). absurd (not-both (leads-sector n e few l) f)) (λ (g : n ≤ e). g) (below-or e n),
+)
+
 leads-not : (n e : ℕ) → e ≢ endOfChain → n ≤ e → leads n e ≡ false
 unfolding leads
 leads-not n e d h = rw (ne-eqb e endOfChain d) (both-false-right (regular e) (ltb e n) (le-ltb e n h))
+
+pub leads-other : (n e : ℕ) → n ≤ maxRegular → e ≢ endOfChain → ltb e n ≡ leads n e
+leads-other n e few d =
+    ⊎-elim
+    (λ (l : e < n). lt-ltb e n l ∙ sym (leads-sector n e few l))
+    (λ (g : n ≤ e). le-ltb e n g ∙ sym (leads-not n e d g))
+    (below-or e n)
 
 -- one turn of the walk, by the id and its entry
 module _ (fat : List ℕ) (start : ℕ) where
@@ -211,7 +229,7 @@ module _ {fat : List ℕ} {start : ℕ} where
       (λ (l : stepped fat start (suc k) < length fat).
       ⊎-elim
       (λ (s : stepped fat start (suc k) ≡ start). back k (omega arith) g s)
-      (λ (n : stepped fat start (suc k) ≢ start). fate-from d (suc k) (omega arith) (going-more g l n))
+      (λ (n : stepped fat start (suc k) ≢ start). fate-from d (suc k) (omega arith) (going-more g l (λ pos. n)))
       (same-or (stepped fat start (suc k)) start))
       (λ (out : length fat ≤ stepped fat start (suc k)).
       ⊎-elim
@@ -223,7 +241,7 @@ module _ {fat : List ℕ} {start : ℕ} where
   pub fate : Fate fat start
   fate =
       ⊎-elim
-      (λ (l : start < length fat). fate-from (length fat) 0 (zero-add (length fat)) (going-one l))
+      (λ (l : start < length fat). fate-from (length fat) 0 (zero-add (length fat)) (going-more going-none (rw stepped-none l) (λ pos. absurd (omega arith))))
       (λ (h : length fat ≤ start).
       ⊎-elim
       (λ (e : start ≡ endOfChain). ended 0 (record { within = λ j l. absurd (omega arith) }) (stepped-none fat start ∙ e))

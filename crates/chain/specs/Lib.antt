@@ -1,2 +1,3 @@
-pub mod Walk
 pub mod Steps
+pub mod Walk
+pub mod Walked
