@@ -2,6 +2,7 @@ pub mod Bytes
 pub mod Chains
 pub mod Examples
 pub mod Exactly
+pub mod Judged
 pub mod Listing
 pub mod Pigeon
 pub mod Reading

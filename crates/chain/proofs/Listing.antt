@@ -7,7 +7,7 @@ use mathlib.Core.Logic.{_≢_}
 use native.Mathlib.Omega.{arith}
 use native.Mathlib.Numerals.{add-one}
 use lib.ListN.{length, getD, set, take, drop}
-use lib.Seq.{take-at}
+use lib.Seq.{take-at, drop-at}
 use Rattle.lists.specs.Lists.{tab}
 use Rattle.lists.proofs.Tab.{length-tab, filled-none, filled-more, length-filled}
 use Rattle.consts.specs.Consts.{maxRegular, endOfChain}
@@ -99,3 +99,29 @@ module _ {fat : List ℕ} {start : ℕ} {before ids : List ℕ} {id count : ℕ}
 
   pub turn-back : (after : List ℕ) → getD fat id 0 ≡ start → WalkLeft fat start before (Refused 22) after
   turn-back after e = left-refuses fat start before after 22 (walk-back (a .few) turn-going turn-room (turn-next ∙ e))
+
+-- for callers: the outcome that an answer stands for, and the lent list
+answer-lists : (w : Outcome) (k : ℕ) → Listed k ≡ answerOf w → (ids : List ℕ) × (w ≡ lists ids) × (length ids ≡ k)
+unfolding answerOf
+answer-lists (lists ids) k e = (ids, refl, cc)
+answer-lists (refuses r) k e = let z : _≡_ {A = ℕ} 0 1 = cc in absurd (omega arith)
+
+answer-refuses : (w : Outcome) (x : ℕ) → Refused x ≡ answerOf w → w ≡ refuses x
+unfolding answerOf
+answer-refuses (lists ids) x e = let z : _≡_ {A = ℕ} 0 1 = cc in absurd (omega arith)
+answer-refuses (refuses r) x e = let same : r ≡ x = cc in ap refuses same
+
+module _ {fat : List ℕ} {start : ℕ} {before after : List ℕ} {r : Walked} (w : WalkLeft fat start before r after) where
+  pub left-refused : (x : ℕ) → r ≡ Refused x → walkOf fat start ≡ refuses x
+  left-refused x e = answer-refuses (walkOf fat start) x (sym e ∙ w .answer)
+
+  pub left-listed : (k : ℕ) → r ≡ Listed k → (walkOf fat start ≡ lists (take k after)) × (drop k after ≡ drop k before)
+  left-listed k e = of (answer-lists (walkOf fat start) k (sym e ∙ w .answer))
+    where
+      of : (ids : List ℕ) × (walkOf fat start ≡ lists ids) × (length ids ≡ k) → (walkOf fat start ≡ lists (take k after)) × (drop k after ≡ drop k before)
+      of (ids, o, l) =
+          let shape : after ≡ ids ++ drop k before = w .front ids o ∙ ap (λ (m : ℕ). ids ++ drop m before) l in
+          (
+            o ∙ ap lists (sym (ap (take k) shape ∙ take-at ids (drop k before) k l)),
+            ap (drop k) shape ∙ drop-at ids (drop k before) k l,
+          )

@@ -76,15 +76,15 @@ pub fn read(image: &[u8], s: usize, ids: &[u32], offset: usize, buf: &mut [u8]) 
     requires { ⌜ Readable s (length (now image)) (now ids) offset ⌝ }
     ensures { λ r. ⌜ ReadLeft s (now (image .entry)) (now (ids .entry)) offset (now (buf .entry)) r (now (buf .exit)) ⌝ }
 {
-    let count = lesser(buf.len(), s * ids.len() - offset);
+    let total = lesser(buf.len(), s * ids.len() - offset);
     let mut done = 0;
-    while done < count {
+    while done < total {
         let at = offset + done;
         let x = at % s;
-        let end = done + lesser(s - x, count - done);
+        let end = done + lesser(s - x, total - done);
         let id = ids[at / s] as usize;
         read_at(image, s, id, x, &mut buf[done..end]);
         done = end;
     }
-    count
+    total
 }

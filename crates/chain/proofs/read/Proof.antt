@@ -10,10 +10,10 @@ use Rattle.chain.proofs.read.Statement.{statement}
 use Rattle.chain.proofs.read.Tie as tie
 
 abbrev Inv-loop : tie.InvT-loop
-Inv-loop image s ids offset buf₀ count done₀ buf done = Reading s image ids offset buf₀ count buf done
+Inv-loop image s ids offset buf₀ total done₀ buf done = Reading s image ids offset buf₀ total buf done
 
 abbrev μ-loop : tie.MeasureT-loop
-μ-loop image s ids offset buf₀ count done₀ buf done = count - done
+μ-loop image s ids offset buf₀ total done₀ buf done = total - done
 
 -- the turn that a call of `read_at` is in
 abbrev turn : tie.After-read-at-arg Inv-loop μ-loop → tie.After-lesser2 Inv-loop μ-loop
