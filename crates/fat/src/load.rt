@@ -102,7 +102,7 @@ pub fn rest_free(image: &[u8], s: usize, n: usize, list: &[u32], difats: &[u32],
 }
 
 // The smaller of two numbers.
-fn lesser(a: usize, b: usize) -> usize
+pub fn lesser(a: usize, b: usize) -> usize
     ensures { λ r. ⌜ (r ≤ a) × (r ≤ b) × (r ≡ min a b) ⌝ }
 {
     if a < b { a } else { b }

@@ -1,0 +1,135 @@
+-- A walk gives each of document 01's 20 to 22 exactly when its cause holds, and where no sector is pointed to twice its fuel is never spent. Assumes nothing.
+use Prim.Native.Nat.{ℕ, zero, suc, _≤_, _<_}
+use mathlib.Core.Path.{_≡_, refl, _∙_, sym, ap}
+use mathlib.Core.Bool.{false}
+use mathlib.Core.List.{List}
+use mathlib.Core.Logic.{_⊎_, inl, inr, ⊎-elim, _≢_, _↔_}
+use native.Mathlib.Omega.{arith}
+use lib.ListN.{length, getD}
+use Rattle.lists.specs.Lists.{tab}
+use Rattle.lists.proofs.Cases.{below-or, same-or, not-both}
+use Rattle.consts.specs.Consts.{maxRegular, endOfChain}
+use Rattle.judge.specs.Judge.{pointed}
+use Rattle.judge.proofs.Judging.{pointed-by}
+use Rattle.chain.specs.Walk.{Outcome, lists, refuses, walkOf}
+use Rattle.chain.specs.Steps.{stepped, Path, Returns, Breaks, Once, Unpointed}
+use Rattle.chain.proofs.Steps.{stepped-next, stepped-none, leaves-different, Going, going-most}
+use Rattle.chain.proofs.Walking.{walk-past, walk-back, walk-spent, walk-ends, walk-breaks, Fate, past, ended, broken, back, spent, fate}
+
+-- two outcomes that are not one
+lists-refuse : {A : Type 0} {l : List ℕ} {r : ℕ} → lists l ≡ refuses r → A
+lists-refuse e = let z : _≡_ {A = ℕ} 0 1 = cc in absurd (omega arith)
+
+same-number : {a b : ℕ} → refuses a ≡ refuses b → a ≡ b
+same-number e = cc
+
+-- steps to END, and the ids on them
+pub record Ended (fat : List ℕ) (start : ℕ) (ids : List ℕ) : Type 0 where
+  pub steps : ℕ
+  pub path : Path fat start steps
+  pub last : stepped fat start steps ≡ endOfChain
+  pub met : ids ≡ tab (stepped fat start) steps
+
+-- steps that come back to their start never leave the table
+returns-stay : {fat : List ℕ} {start : ℕ} → Returns fat start → (k : ℕ) → Path fat start k → length fat ≤ stepped fat start k → ⊥
+returns-stay {fat} {start} r k p out =
+    ⊎-elim
+    (λ (l : k < r .steps). omega (arith, r .path .within k l))
+    (λ (g : r .steps ≤ k). ⊎-elim
+    (λ (l : r .steps < k).
+    let z : r .steps ≡ 0 = leaves-different p out (r .steps) 0 l (omega arith) (r .back ∙ sym (stepped-none fat start)) in
+    omega (arith, r .some))
+    (λ (s : k ≤ r .steps).
+    let same : stepped fat start k ≡ start = let e : k ≡ r .steps = omega arith in ap (stepped fat start) e ∙ r .back in
+    omega (arith, r .path .within 0 (r .some), stepped-none fat start))
+    (below-or (r .steps) k))
+    (below-or k (r .steps))
+
+module _ (fat : List ℕ) (start : ℕ) (few : length fat ≤ maxRegular) where
+  -- from an outcome to its cause
+  pub listed-steps : (ids : List ℕ) → walkOf fat start ≡ lists ids → Ended fat start ids
+  listed-steps ids w = at fate
+    where
+      at : Fate fat start → Ended fat start ids
+      at (past d h) = lists-refuse (sym w ∙ walk-past fat start d h)
+      at (ended k p e) = let same : lists (tab (stepped fat start) k) ≡ lists ids = sym (walk-ends few k p e) ∙ w in
+          record { steps = k; path = p; last = e; met = cc }
+      at (broken b) = lists-refuse (sym w ∙ walk-breaks few b)
+      at (back k h g e) = lists-refuse (sym w ∙ walk-back few g h e)
+      at (spent g) = lists-refuse (sym w ∙ walk-spent few g)
+
+  refused-past : walkOf fat start ≡ refuses 20 → (start ≢ endOfChain) × (length fat ≤ start)
+  refused-past w = at fate
+    where
+      at : Fate fat start → (start ≢ endOfChain) × (length fat ≤ start)
+      at (past d h) = (d, h)
+      at (ended k p e) = lists-refuse (sym (walk-ends few k p e) ∙ w)
+      at (broken b) = absurd (omega (arith, same-number (sym (walk-breaks few b) ∙ w)))
+      at (back k h g e) = absurd (omega (arith, same-number (sym (walk-back few g h e) ∙ w)))
+      at (spent g) = absurd (omega (arith, same-number (sym (walk-spent few g) ∙ w)))
+
+  refused-breaks : walkOf fat start ≡ refuses 21 → Breaks fat start
+  refused-breaks w = at fate
+    where
+      at : Fate fat start → Breaks fat start
+      at (past d h) = absurd (omega (arith, same-number (sym (walk-past fat start d h) ∙ w)))
+      at (ended k p e) = lists-refuse (sym (walk-ends few k p e) ∙ w)
+      at (broken b) = b
+      at (back k h g e) = absurd (omega (arith, same-number (sym (walk-back few g h e) ∙ w)))
+      at (spent g) = absurd (omega (arith, same-number (sym (walk-spent few g) ∙ w)))
+
+  refused-returns : walkOf fat start ≡ refuses 22 → Returns fat start
+  refused-returns w = at fate
+    where
+      at : Fate fat start → Returns fat start
+      at (past d h) = absurd (omega (arith, same-number (sym (walk-past fat start d h) ∙ w)))
+      at (ended k p e) = lists-refuse (sym (walk-ends few k p e) ∙ w)
+      at (broken b) = absurd (omega (arith, same-number (sym (walk-breaks few b) ∙ w)))
+      at (back k h g e) = record { steps = suc k; some = omega arith; path = g .path; back = e }
+      at (spent g) = absurd (omega (arith, same-number (sym (walk-spent few g) ∙ w)))
+
+  -- from a return to 22
+  walk-returns : Once fat → Returns fat start → walkOf fat start ≡ refuses 22
+  walk-returns o r = at fate
+    where
+      at : Fate fat start → walkOf fat start ≡ refuses 22
+      at (past d h) = absurd (omega (arith, r .path .within 0 (r .some), stepped-none fat start))
+      at (ended k p e) = absurd (returns-stay r k p (omega arith))
+      at (broken b) = absurd (returns-stay r (b .steps) (b .path) (b .outside))
+      at (back k h g e) = walk-back few g h e
+      at (spent g) = absurd (omega (arith, going-most few o g))
+
+  -- 20 is given exactly when the start is neither END nor below n
+  pub past-exactly : (walkOf fat start ≡ refuses 20) ↔ ((start ≢ endOfChain) × (length fat ≤ start))
+  past-exactly = (refused-past, λ c. walk-past fat start (c .0) (c .1))
+
+  -- 21 is given exactly when steps lead to an entry that is neither END nor a sector of the table
+  pub breaks-exactly : (walkOf fat start ≡ refuses 21) ↔ Breaks fat start
+  breaks-exactly = (refused-breaks, walk-breaks few)
+
+  -- 22 is given exactly when steps lead back to the start
+  pub returns-exactly : Once fat → (walkOf fat start ≡ refuses 22) ↔ Returns fat start
+  returns-exactly o = (refused-returns, walk-returns o)
+
+  -- where no sector is pointed to twice, n ids are enough
+  pub never-spent : Once fat → walkOf fat start ≢ refuses 0
+  never-spent o w = at fate
+    where
+      at : Fate fat start → ⊥
+      at (past d h) = omega (arith, same-number (sym (walk-past fat start d h) ∙ w))
+      at (ended k p e) = lists-refuse (sym (walk-ends few k p e) ∙ w)
+      at (broken b) = omega (arith, same-number (sym (walk-breaks few b) ∙ w))
+      at (back k h g e) = omega (arith, same-number (sym (walk-back few g h e) ∙ w))
+      at (spent g) = omega (arith, going-most few o g)
+
+  -- a start that nothing points to never meets 22
+  pub unpointed-never : Unpointed fat start → walkOf fat start ≢ refuses 22
+  unpointed-never u w = at (refused-returns w .steps) (refused-returns w .some) (refused-returns w .path) (refused-returns w .back)
+    where
+      at : (k : ℕ) → 0 < k → Path fat start k → stepped fat start k ≡ start → ⊥
+      at zero pos p e = omega arith
+      at (suc k) pos p e = u .none (stepped fat start k) (p .within k (omega arith)) (sym (stepped-next fat start k) ∙ e)
+
+-- a start that judging found no entry to point at
+pub unpointed-of : (fat : List ℕ) (start : ℕ) → pointed fat (length fat) start ≡ false → Unpointed fat start
+unpointed-of fat start f = record { none = λ i h e. not-both (pointed-by fat (length fat) start i h e) f }

@@ -1,0 +1,10 @@
+pub mod Bytes
+pub mod Chains
+pub mod Examples
+pub mod Exactly
+pub mod Judged
+pub mod Listing
+pub mod Pigeon
+pub mod Reading
+pub mod Steps
+pub mod Walking
