@@ -1,23 +1,17 @@
 -- The laws of a chain's bytes and of a read: first over any lists of S elements each, as mini sectors are too, then over sectors. Assumes nothing.
-use Prim.Native.Nat.{ℕ, zero, suc, _+_, _-_, _*_, _/_, _%_, _≤_, _<_, min}
+use Prim.Native.Nat.{ℕ, zero, suc, _+_, _-_, _*_, _/_, _%_, _≤_, _<_}
 use mathlib.Core.Path.{_≡_, refl, _∙_, sym, ap}
-use mathlib.Core.Bool.{true}
 use mathlib.Core.List.{List, [], _∷_, _++_, flatMap}
 use native.Mathlib.Omega.{arith}
-use native.Mathlib.Nat.{add-zero, zero-add, add-assoc, mul-zero, mul-suc, mul-comm, add-mul, one-mul, mul-le-mul-left, mul-le-mul-right, div-add-mod, mod-lt, div-lt-iff-lt-mul, min-le-left, min-le-right}
-use borrow.Rule.Slice.PartMut.{putMid}
-use lib.ListN.{length, getD, take, drop, length-append, List·getD-append}
-use lib.Seq.{ext-getD, getD-append-add, take-add, drop-drop}
+use native.Mathlib.Nat.{zero-add, mul-zero, mul-suc, mul-comm, add-mul, mul-le-mul-left, div-add-mod, mod-lt, div-lt-iff-lt-mul, min-le-left, min-le-right}
+use lib.ListN.{length, getD, length-append, List·getD-append}
+use lib.Seq.{ext-getD, getD-append-add}
 use Rattle.lists.specs.Lists.{splice, part}
-use Rattle.lists.proofs.Splice.{length-part, getD-part, length-splice, splice-inside, splice-above, splice-nil, splice-next, splice-whole, putMid-splice}
-use Rattle.sectors.specs.Sectors.{startOf, sectorOf, perSector, Holds}
+use Rattle.lists.proofs.Splice.{length-part, getD-part, length-splice, splice-inside, splice-above}
+use Rattle.sectors.specs.Sectors.{startOf, sectorOf, Holds}
 use Rattle.sectors.proofs.Laws.{sector-within}
-use Rattle.chain.specs.Bytes.{chainBytes, readCount, readBytes, Lies, Readable, ReadLeft}
-
--- a run of a part is a run of the whole, and a part in two runs
-pub part-add : (b : List ℕ) (o k m : ℕ) → part b o (k + m) ≡ part b o k ++ part b (o + k) m
-unfolding part
-part-add b o k m = take-add k m (drop o b) ∙ ap (λ (l : List ℕ). take k (drop o b) ++ take m l) (drop-drop k o b)
+use Rattle.chain.specs.Bytes.{chainBytes, readCount, readBytes, Lies}
+use Rattle.chain.specs.Steps.{Sectors}
 
 -- lists of S elements, one after the other
 module _ (S : ℕ) (f : ℕ → List ℕ) where
@@ -96,12 +90,14 @@ module _ (S : ℕ) (img ids : List ℕ) (l : Lies S (length img) ids) where
       chain-long : length (part (chainBytes S img ids) o k) ≡ k
       chain-long = length-part (chainBytes S img ids) o k (run-fits o k h r)
 
--- sectors below n, at most n, lie in an image that holds n
-pub lies-of : (S n len : ℕ) (ids : List ℕ) → Holds S n len → ((j : ℕ) → j < length ids → getD ids j 0 < n) → length ids ≤ n → Lies S len ids
-lies-of S n len ids h within most = record {
+-- sectors of a table lie in an image that holds as many as it has entries
+pub sectors-lie : (S len : ℕ) (fat ids : List ℕ) → Holds S (length fat) len → Sectors fat ids → Lies S len ids
+sectors-lie S len fat ids h s = record {
   some = omega (arith, h .entries, h .two);
-  inside = λ j l. sector-within S n len (getD ids j 0) h (within j l);
-  all = let m : S * length ids ≤ S * n = mul-le-mul-left S most in omega (arith, h .fits, add-mul n 1 S, mul-comm S n);
+  inside = λ j l. sector-within S (length fat) len (getD ids j 0) h (s .within j l);
+  all =
+      let most : S * length ids ≤ S * length fat = mul-le-mul-left S (s .most) in
+      omega (arith, h .fits, add-mul (length fat) 1 S, mul-comm S (length fat));
 }
 
 -- the count that a read gives stays within the buffer and within the chain

@@ -6,13 +6,12 @@ use mathlib.Core.Logic.{⊎-elim, _≢_, _↔_}
 use native.Mathlib.Omega.{arith}
 use lib.ListN.{length, getD, drop, length-drop, List·getD-eq-default}
 use lib.Seq.{getD-drop}
-use Rattle.lists.specs.Lists.{tab}
 use Rattle.lists.proofs.Cases.{below-or}
 use Rattle.lists.proofs.Tab.{length-tab, getD-tab, is-tab}
 use Rattle.consts.specs.Consts.{maxRegular, endOfChain}
 use Rattle.chain.specs.Walk.{lists, walkOf}
-use Rattle.chain.specs.Steps.{stepped, Path, Linked, Once, Unpointed}
-use Rattle.chain.proofs.Steps.{stepped-add, stepped-next, stepped-none, leaves-different, leaves-most}
+use Rattle.chain.specs.Steps.{stepped, Path, Sectors, Linked, Once, Unpointed}
+use Rattle.chain.proofs.Steps.{stepped-add, stepped-next, stepped-none, path-shorter, leaves-different, leaves-most}
 use Rattle.chain.proofs.Walking.{walk-ends}
 use Rattle.chain.proofs.Exactly.{Ended, listed-steps}
 
@@ -23,11 +22,11 @@ getD-any (x ∷ l) zero d e h = refl
 getD-any (x ∷ l) (suc i) d e h = getD-any l i d e (omega arith)
 
 -- the ids on steps to END, by their places
-module _ {fat : List ℕ} {start : ℕ} {ids : List ℕ} (few : length fat ≤ maxRegular) (w : Ended fat start ids) where
-  pub ended-length : length ids ≡ w .steps
+module _ {fat : List ℕ} {start : ℕ} {ids : List ℕ} (w : Ended fat start ids) where
+  ended-length : length ids ≡ w .steps
   ended-length = ap length (w .met) ∙ length-tab (stepped fat start) (w .steps)
 
-  pub ended-at : (j : ℕ) → j < length ids → getD ids j 0 ≡ stepped fat start j
+  ended-at : (j : ℕ) → j < length ids → getD ids j 0 ≡ stepped fat start j
   ended-at j h =
       let l : j < w .steps = rw ended-length at h in
       ap (λ (x : List ℕ). getD x j 0) (w .met) ∙ getD-tab (stepped fat start) (w .steps) j 0 l
@@ -41,23 +40,17 @@ module _ {fat : List ℕ} {start : ℕ} {ids : List ℕ} (few : length fat ≤ m
       List·getD-eq-default ids endOfChain g ∙ sym (w .last) ∙ ap (stepped fat start) e)
       (below-or j (length ids))
 
-  ended-out : length fat ≤ stepped fat start (w .steps)
-  ended-out = omega (arith, w .last)
-
--- what a walk lists: sectors of the table, different ones, and so at most as many as it has
-pub record Sectors (fat ids : List ℕ) : Type 0 where
-  pub most : length ids ≤ length fat
-  pub within : (j : ℕ) → j < length ids → getD ids j 0 < length fat
-  pub apart : (i j : ℕ) → i < length ids → j < length ids → getD ids i 0 ≡ getD ids j 0 → i ≡ j
+  ended-out : length fat ≤ maxRegular → length fat ≤ stepped fat start (w .steps)
+  ended-out few = omega (arith, w .last)
 
 module _ (fat : List ℕ) (start : ℕ) (ids : List ℕ) (few : length fat ≤ maxRegular) where
   ended-sectors : Ended fat start ids → Sectors fat ids
   ended-sectors w = record {
-    most = rw (ended-length few w) (leaves-most (w .path) (ended-out few w));
-    within = λ j h. rw (ended-at few w j h) (w .path .within j (omega (arith, ended-length few w)));
+    most = rw (ended-length w) (leaves-most (w .path) (ended-out w few));
+    within = λ j h. rw (ended-at w j h) (w .path .within j (omega (arith, ended-length w)));
     apart = λ i j hi hj e.
-        leaves-different (w .path) (ended-out few w) i j (omega (arith, ended-length few w)) (omega (arith, ended-length few w))
-        (sym (ended-at few w i hi) ∙ e ∙ ended-at few w j hj);
+        leaves-different (w .path) (ended-out w few) i j (omega (arith, ended-length w)) (omega (arith, ended-length w))
+        (sym (ended-at w i hi) ∙ e ∙ ended-at w j hj);
   }
 
   -- a walk lists different sectors, all below n, never more than n
@@ -70,10 +63,10 @@ module _ (fat : List ℕ) (start : ℕ) (ids : List ℕ) (few : length fat ≤ m
     where
       of : Ended fat start ids → Linked fat start ids
       of h = record {
-        first = ended-to few h 0 (omega arith) ∙ stepped-none fat start;
+        first = ended-to h 0 (omega arith) ∙ stepped-none fat start;
         within = ended-sectors h .within;
         next = λ j l.
-            ap (λ (x : ℕ). getD fat x 0) (ended-at few h j l) ∙ sym (stepped-next fat start j) ∙ sym (ended-to few h (suc j) (omega arith));
+            ap (λ (x : ℕ). getD fat x 0) (ended-at h j l) ∙ sym (stepped-next fat start j) ∙ sym (ended-to h (suc j) (omega arith));
       }
 
   linked-steps : Linked fat start ids → (j : ℕ) → j ≤ length ids → stepped fat start j ≡ getD ids j endOfChain
@@ -101,18 +94,18 @@ module _ (fat : List ℕ) (start : ℕ) (ids : List ℕ) (few : length fat ≤ m
   walk-tail w j h = of (listed-steps fat start few ids w)
     where
       of : Ended fat start ids → walkOf fat (getD ids j 0) ≡ lists (drop j ids)
-      of k = rw (ended-at few k j h)
+      of k = rw (ended-at k j h)
           (walk-ends few (length ids - j)
-          (record { within = λ i l. rw (on i) (k .path .within (j + i) (omega (arith, ended-length few k))) })
+          (record { within = λ i l. rw (on i) (k .path .within (j + i) (omega (arith, ended-length k))) })
           (on (length ids - j) ∙ ap (stepped fat start) all ∙ k .last)
           ∙ ap lists (sym (is-tab (drop j ids) (stepped fat (stepped fat start j)) (length ids - j) (length-drop j ids)
-          (λ i l. getD-drop j ids i 0 ∙ ended-at few k (j + i) (omega arith) ∙ sym (on i)))))
+          (λ i l. getD-drop j ids i 0 ∙ ended-at k (j + i) (omega arith) ∙ sym (on i)))))
         where
           on : (i : ℕ) → stepped fat (stepped fat start j) i ≡ stepped fat start (j + i)
           on i = sym (stepped-add fat start j i)
 
           all : j + (length ids - j) ≡ k .steps
-          all = omega (arith, ended-length few k)
+          all = omega (arith, ended-length k)
 
 -- two starts that nothing points to
 module _ {fat : List ℕ} {a b : ℕ} (few : length fat ≤ maxRegular) (o : Once fat) (other : a ≢ b) (ua : Unpointed fat a) (ub : Unpointed fat b) where
@@ -124,8 +117,8 @@ module _ {fat : List ℕ} {a b : ℕ} (few : length fat ≤ maxRegular) (o : Onc
   apart-steps (suc i) (suc j) p q e =
       let low : getD fat (stepped fat a i) 0 < length fat = p .within (suc i) (omega arith) in
       apart-steps i j
-      (record { within = λ k h. p .within k (omega arith) })
-      (record { within = λ k h. q .within k (omega arith) })
+      (path-shorter (omega arith) p)
+      (path-shorter (omega arith) q)
       (o .once _ _ (p .within i (omega arith)) (q .within j (omega arith)) (omega arith) low e)
 
   -- their walks share no sector
@@ -136,6 +129,6 @@ module _ {fat : List ℕ} {a b : ℕ} (few : length fat ≤ maxRegular) (o : Onc
       at : Ended fat a xs → Ended fat b ys → ⊥
       at k m =
           apart-steps i j
-          (record { within = λ x h. k .path .within x (omega (arith, ended-length few k)) })
-          (record { within = λ x h. m .path .within x (omega (arith, ended-length few m)) })
-          (sym (ended-at few k i hi) ∙ e ∙ ended-at few m j hj)
+          (path-shorter (omega (arith, ended-length k)) (k .path))
+          (path-shorter (omega (arith, ended-length m)) (m .path))
+          (sym (ended-at k i hi) ∙ e ∙ ended-at m j hj)

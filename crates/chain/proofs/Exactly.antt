@@ -1,19 +1,19 @@
 -- A walk gives each of document 01's 20 to 22 exactly when its cause holds, and where no sector is pointed to twice its fuel is never spent. Assumes nothing.
 use Prim.Native.Nat.{ℕ, zero, suc, _≤_, _<_}
-use mathlib.Core.Path.{_≡_, refl, _∙_, sym, ap}
+use mathlib.Core.Path.{_≡_, _∙_, sym, ap}
 use mathlib.Core.Bool.{false}
 use mathlib.Core.List.{List}
-use mathlib.Core.Logic.{_⊎_, inl, inr, ⊎-elim, _≢_, _↔_}
+use mathlib.Core.Logic.{⊎-elim, _≢_, _↔_}
 use native.Mathlib.Omega.{arith}
-use lib.ListN.{length, getD}
+use lib.ListN.{length}
 use Rattle.lists.specs.Lists.{tab}
-use Rattle.lists.proofs.Cases.{below-or, same-or, not-both}
+use Rattle.lists.proofs.Cases.{below-or, not-both}
 use Rattle.consts.specs.Consts.{maxRegular, endOfChain}
 use Rattle.judge.specs.Judge.{pointed}
 use Rattle.judge.proofs.Judging.{pointed-by}
-use Rattle.chain.specs.Walk.{Outcome, lists, refuses, walkOf}
+use Rattle.chain.specs.Walk.{lists, refuses, walkOf}
 use Rattle.chain.specs.Steps.{stepped, Path, Returns, Breaks, Once, Unpointed}
-use Rattle.chain.proofs.Steps.{stepped-next, stepped-none, leaves-different, Going, going-most}
+use Rattle.chain.proofs.Steps.{stepped-next, stepped-none, leaves-different, going-most}
 use Rattle.chain.proofs.Walking.{walk-past, walk-back, walk-spent, walk-ends, walk-breaks, Fate, past, ended, broken, back, spent, fate}
 
 -- two outcomes that are not one

@@ -34,7 +34,12 @@ pub q-from-end : walkOf q endOfChain ≡ lists []
 unfolding walkOf
 q-from-end = refl
 
--- a loop of two comes back to its start, and a bad entry that is met first is 21
+-- a bad entry on the way
+pub bad-second : walkOf (1 ∷ freeSector ∷ []) 0 ≡ refuses 21
+unfolding walkOf
+bad-second = refl
+
+-- a loop of two comes back to its start
 pub loop-of-two : walkOf (1 ∷ 0 ∷ []) 1 ≡ refuses 22
 unfolding walkOf
 loop-of-two = refl

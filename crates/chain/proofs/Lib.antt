@@ -4,7 +4,6 @@ pub mod Examples
 pub mod Exactly
 pub mod Judged
 pub mod Listing
-pub mod Pigeon
 pub mod Reading
 pub mod Steps
 pub mod Walking

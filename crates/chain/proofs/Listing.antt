@@ -1,5 +1,5 @@
 -- The loop of `walk`: where it stands, a turn of it, and what each way out leaves. Assumes nothing.
-use Prim.Native.Nat.{ℕ, zero, suc, _+_, _-_, _≤_, _<_}
+use Prim.Native.Nat.{ℕ, suc, _+_, _-_, _≤_, _<_}
 use mathlib.Core.Path.{_≡_, refl, _∙_, sym, ap}
 use mathlib.Core.Bool.{true, false}
 use mathlib.Core.List.{List, _++_}
@@ -56,7 +56,7 @@ walks-past fat start before few f =
 
 module _ {fat : List ℕ} {start : ℕ} {before ids : List ℕ} {id count : ℕ} (a : Walkable fat before) (g : Walks fat start before ids id count) where
   -- the steps so far are at most as many as there are sectors
-  pub walks-most : count ≤ length fat
+  walks-most : count ≤ length fat
   walks-most = going-most (a .few) (a .once) (g .going)
 
   pub walks-length : length ids ≡ length before
@@ -120,8 +120,7 @@ module _ {fat : List ℕ} {start : ℕ} {before after : List ℕ} {r : Walked} (
     where
       of : (ids : List ℕ) × (walkOf fat start ≡ lists ids) × (length ids ≡ k) → (walkOf fat start ≡ lists (take k after)) × (drop k after ≡ drop k before)
       of (ids, o, l) =
-          let shape : after ≡ ids ++ drop k before = w .front ids o ∙ ap (λ (m : ℕ). ids ++ drop m before) l in
-          (
+          let shape : after ≡ ids ++ drop k before = w .front ids o ∙ ap (λ (m : ℕ). ids ++ drop m before) l in (
             o ∙ ap lists (sym (ap (take k) shape ∙ take-at ids (drop k before) k l)),
             ap (drop k) shape ∙ drop-at ids (drop k before) k l,
           )

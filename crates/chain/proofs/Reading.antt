@@ -1,17 +1,17 @@
 -- The loop of `read`: where it stands, a turn of it, and what it leaves. Assumes nothing.
 use Prim.Native.Nat.{ℕ, _+_, _-_, _*_, _/_, _%_, _≤_, _<_, min}
-use mathlib.Core.Path.{_≡_, refl, _∙_, sym, ap}
-use mathlib.Core.List.{List, _++_}
+use mathlib.Core.Path.{_≡_, _∙_, sym, ap}
+use mathlib.Core.List.{List}
 use native.Mathlib.Omega.{arith}
 use native.Mathlib.Nat.{zero-add, mod-lt}
 use borrow.Rule.Slice.PartMut.{putMid}
 use lib.ListN.{length, getD, take, drop, length-take, length-drop}
 use Rattle.lists.specs.Lists.{splice, part}
-use Rattle.lists.proofs.Splice.{length-part, length-splice, splice-nil, splice-next, splice-whole, putMid-splice}
+use Rattle.lists.proofs.Splice.{length-part, length-splice, splice-nil, splice-next, splice-whole, part-append, putMid-splice}
 use Rattle.sectors.specs.Sectors.{startOf, sectorOf}
 use Rattle.sectors.proofs.Laws.{scaled}
 use Rattle.chain.specs.Bytes.{chainBytes, readCount, readBytes, Readable, ReadLeft}
-use Rattle.chain.proofs.Bytes.{part-add, length-chain, chain-place, chain-run, count-fits, count-within}
+use Rattle.chain.proofs.Bytes.{length-chain, chain-place, chain-run, count-fits, count-within}
 
 -- a part that is copied over the whole of a list
 pub copied-part : (from out : List ℕ) (x : ℕ) → x + length out ≤ length from → splice out 0 (take (x + length out - x) (drop x from)) ≡ part from x (length out)
@@ -56,7 +56,7 @@ module _ {S : ℕ} {img ids : List ℕ} {offset : ℕ} {before : List ℕ} {coun
 
   -- a turn: the next byte stands in a listed sector, and a run of that sector is put behind what is read
   module _ (more : done < count) where
-    pub turn-low : offset + done < S * length ids
+    turn-low : offset + done < S * length ids
     turn-low = omega (arith, reading-within)
 
     pub turn-place : (offset + done) / S < length ids
@@ -84,7 +84,7 @@ module _ {S : ℕ} {img ids : List ℕ} {offset : ℕ} {before : List ℕ} {coun
       holds =
           splice-next before 0 sofar (part (chainBytes S img ids) (offset + done) step) (g .holds) put
           (omega (arith, run-long done (g .most), next-long, reading-fits))
-          ∙ ap (splice before 0) (sym (part-add (chainBytes S img ids) offset done step));
+          ∙ ap (splice before 0) (sym (part-append (chainBytes S img ids) offset done step));
     }
       where
         sofar : List ℕ

@@ -7,9 +7,9 @@ use native.Mathlib.Omega.{arith}
 use native.Mathlib.Nat.{add-zero, add-suc}
 use lib.ListN.{length, getD}
 use Rattle.lists.proofs.Cases.{below-or}
+use Rattle.lists.proofs.Pigeon.{pigeon}
 use Rattle.consts.specs.Consts.{maxRegular}
 use Rattle.chain.specs.Steps.{stepped, Path, Once}
-use Rattle.chain.proofs.Pigeon.{pigeon}
 
 -- steps after steps
 pub stepped-add : (fat : List ℕ) (start i d : ℕ) → stepped fat start (i + d) ≡ stepped fat (stepped fat start i) d
@@ -73,7 +73,7 @@ going-more {fat} {start} {k} g h d = record {
 
 -- where no sector is pointed to twice, steps that go on meet different sectors: two that are one would have been one a step before, and so back to the start
 module _ {fat : List ℕ} {start k : ℕ} (few : length fat ≤ maxRegular) (o : Once fat) (g : Going fat start k) where
-  pub going-different : (i j : ℕ) → i < k → j < k → stepped fat start i ≡ stepped fat start j → i ≡ j
+  going-different : (i j : ℕ) → i < k → j < k → stepped fat start i ≡ stepped fat start j → i ≡ j
   unfolding stepped
   going-different zero zero hi hj e = refl
   going-different zero (suc j) hi hj e = absurd (g .fresh (suc j) (omega arith) hj (sym e))

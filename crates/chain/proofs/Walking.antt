@@ -2,20 +2,20 @@
 use Prim.Native.Nat.{ℕ, zero, suc, _+_, _-_, _≤_, _<_}
 use mathlib.Core.Path.{_≡_, refl, _∙_, sym, ap}
 use mathlib.Core.Bool.{Bool, true, false}
-use mathlib.Core.List.{List, [], _∷_}
+use mathlib.Core.List.{List, []}
 use mathlib.Core.Logic.{_⊎_, inl, inr, ⊎-elim, _≢_}
 use native.Mathlib.Omega.{arith}
-use native.Mathlib.Nat.{add-zero, add-suc, suc-add, zero-add}
+use native.Mathlib.Nat.{suc-add, zero-add}
 use borrow.Author.Tests.{ltb-true, lt-ltb, le-ltb, le-leb, eq-eqb, ne-eqb}
 use lib.Dec.{eqb, ltb}
 use lib.ListN.{length, getD}
-use Rattle.lists.specs.Lists.{choose, both, either, tab, tabFrom}
+use Rattle.lists.specs.Lists.{choose, either, tab, tabFrom}
 use Rattle.lists.proofs.Cases.{below-or, same-or, not-both, both-true, both-right, both-false-right}
 use Rattle.consts.specs.Consts.{maxRegular, endOfChain}
 use Rattle.judge.specs.Judge.{regular}
 use Rattle.chain.specs.Walk.{Outcome, lists, refuses, ahead, leads, walkFrom, walkOf}
-use Rattle.chain.specs.Steps.{stepped, Path, Returns, Breaks}
-use Rattle.chain.proofs.Steps.{stepped-next, stepped-none, path-shorter, leaves-going, leaves-most, Going, going-none, going-more}
+use Rattle.chain.specs.Steps.{stepped, Path, Breaks}
+use Rattle.chain.proofs.Steps.{stepped-next, stepped-none, leaves-going, leaves-most, Going, going-none, going-more}
 
 -- an entry, in a table of fewer sectors than there are regular numbers: END and a sector lead on, any other does not
 pub leads-end : (n e : ℕ) → e ≡ endOfChain → leads n e ≡ true

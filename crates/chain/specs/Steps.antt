@@ -30,6 +30,12 @@ pub record Breaks (fat : List ℕ) (start : ℕ) : Type 0 where
   pub outside : length fat ≤ stepped fat start steps
   pub other : stepped fat start steps ≢ endOfChain
 
+-- document 01, Walk: sectors of the table, different ones, and no more than it has
+pub record Sectors (fat ids : List ℕ) : Type 0 where
+  pub most : length ids ≤ length fat
+  pub within : (j : ℕ) → j < length ids → getD ids j 0 < length fat
+  pub apart : (i j : ℕ) → i < length ids → j < length ids → getD ids i 0 ≡ getD ids j 0 → i ≡ j
+
 -- MS-CFB 2.3: ids are a chain from start: each is a sector of the table, and its entry is the next one, END at the last
 pub record Linked (fat : List ℕ) (start : ℕ) (ids : List ℕ) : Type 0 where
   pub first : getD ids 0 endOfChain ≡ start

@@ -10,7 +10,7 @@ use borrow.Author.Tests.{eq-eqb}
 use borrow.Rule.Slice.PartMut.{putMid}
 use lib.Dec.{eqb}
 use lib.ListN.{length, getD, take, drop, set, replicate, length-append, length-take, length-drop, take-append-drop, List·getD-append}
-use lib.Seq.{ext-getD, getD-append-add, getD-take, getD-drop, getD-set-same, getD-set-other, length-take-le, drop-drop}
+use lib.Seq.{ext-getD, getD-append-add, take-add, getD-take, getD-drop, getD-set-same, getD-set-other, length-take-le, drop-drop}
 use Rattle.lists.specs.Lists.{splice, part, sameList, Below}
 use Rattle.lists.proofs.Cases.{below-or, both-left, both-right, both-true, not-both}
 
@@ -22,6 +22,11 @@ length-part b o k h = simp (length-take, length-drop) (omega arith)
 pub getD-part : (b : List ℕ) (o k i : ℕ) → i < k → getD (part b o k) i 0 ≡ getD b (o + i) 0
 unfolding part
 getD-part b o k i h = rw (getD-take, getD-drop)
+
+-- a part in two runs
+pub part-append : (b : List ℕ) (o k m : ℕ) → part b o (k + m) ≡ part b o k ++ part b (o + k) m
+unfolding part
+part-append b o k m = take-add k m (drop o b) ∙ ap (λ (l : List ℕ). take k (drop o b) ++ take m l) (drop-drop k o b)
 
 -- a splice: its length, and what stands below, inside and above the run
 module _ (b : List ℕ) (o : ℕ) (xs : List ℕ) (fits : o + length xs ≤ length b) where

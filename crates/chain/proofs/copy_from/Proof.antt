@@ -1,6 +1,5 @@
 -- The part that is lent is as long as out, so the copy is that part.
 use mathlib.Core.Path.{_∙_}
-use native.Mathlib.Omega.{arith}
 use Rattle.chain.proofs.Reading.{copied-part}
 use borrow.Author.Needs.{needs}
 use Rattle.chain.proofs.copy_from.Statement.{statement}
