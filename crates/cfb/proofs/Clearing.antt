@@ -1,0 +1,40 @@
+-- A list with zeros from a place on. Assumes nothing.
+use Prim.Native.Nat.{ℕ, _+_, _-_, _≤_, _<_}
+use mathlib.Core.Path.{_≡_, refl, sym, _∙_, ap}
+use mathlib.Core.List.{List, [], append-nil}
+use native.Mathlib.Omega.{arith}
+use borrow.Rule.Slice.PartMut.{putMid}
+use lib.ListN.{length, take, drop, replicate, length-replicate, drop-of-length-le}
+use lib.Seq.{take-all, length-take-le}
+use Rattle.lists.specs.Lists.{splice}
+use Rattle.lists.proofs.Splice.{putMid-splice}
+use Rattle.alloc.specs.Opened.{padded}
+use Rattle.chain.specs.declared.Walked.{Walked}
+use Rattle.chain.specs.declared.Walked.the-variants.{Listed, Refused}
+use Rattle.cfb.specs.Listed.{cleared}
+
+-- zeros put over all that lies past a place
+pub zeroed-past : (xs run : List ℕ) (from m : ℕ) → from < length xs → run ≡ replicate m 0 → m ≡ length xs - from
+    → putMid from (length xs - from) xs run ≡ padded (take from xs) (length xs)
+unfolding splice padded
+zeroed-past xs run from m h e l =
+    let long : length run ≡ length xs - from = ap length e ∙ length-replicate {A = ℕ} m 0 ∙ l in
+    let front : length (take from xs) ≡ from = length-take-le from xs (omega arith) in
+    let rest : drop (from + length run) xs ≡ [] = drop-of-length-le xs {i = from + length run} (omega arith) in
+    putMid-splice from (length xs - from) xs run long ∙ rw (rest, append-nil run, front, e, l)
+
+-- nothing lies past a place at the end
+pub zeroed-none : (xs : List ℕ) (from : ℕ) → length xs ≤ from → xs ≡ padded (take from xs) (length xs)
+unfolding padded
+zeroed-none xs from h =
+    let none : length xs - length xs ≡ 0 = omega arith in
+    rw (take-all from xs h, none) (sym (append-nil xs))
+
+-- zeros past the ids of a walk, and beside a refusal nothing else
+pub cleared-listed : (w : Walked) (count : ℕ) (ids after : List ℕ) → w ≡ Listed count → after ≡ padded (take count ids) (length ids) → after ≡ cleared w ids
+unfolding cleared
+cleared-listed w count ids after e a = a ∙ rw e
+
+pub cleared-refused : (w : Walked) (k : ℕ) (ids after : List ℕ) → w ≡ Refused k → after ≡ padded (take 0 ids) (length ids) → after ≡ cleared w ids
+unfolding cleared
+cleared-refused w k ids after e a = a ∙ rw e
