@@ -43,6 +43,7 @@ module _ {fat : List ℕ} {start : ℕ} {ids : List ℕ} (w : Ended fat start id
   ended-out : length fat ≤ maxRegular → length fat ≤ stepped fat start (w .steps)
   ended-out few = omega (arith, w .last)
 
+-- in a table of no more sectors than there are regular numbers
 module _ (fat : List ℕ) (start : ℕ) (ids : List ℕ) (few : length fat ≤ maxRegular) where
   ended-sectors : Ended fat start ids → Sectors fat ids
   ended-sectors w = record {

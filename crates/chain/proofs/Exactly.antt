@@ -1,6 +1,6 @@
 -- A walk gives each of document 01's 20 to 22 exactly when its cause holds, and where no sector is pointed to twice its fuel is never spent. Assumes nothing.
 use Prim.Native.Nat.{ℕ, zero, suc, _≤_, _<_}
-use mathlib.Core.Path.{_≡_, _∙_, sym, ap}
+use mathlib.Core.Path.{_≡_, refl, _∙_, sym, ap}
 use mathlib.Core.Bool.{false}
 use mathlib.Core.List.{List}
 use mathlib.Core.Logic.{⊎-elim, _≢_, _↔_}
@@ -11,17 +11,10 @@ use Rattle.lists.proofs.Cases.{below-or, not-both}
 use Rattle.consts.specs.Consts.{maxRegular, endOfChain}
 use Rattle.judge.specs.Judge.{pointed}
 use Rattle.judge.proofs.Judging.{pointed-by}
-use Rattle.chain.specs.Walk.{lists, refuses, walkOf}
+use Rattle.chain.specs.Walk.{Outcome, lists, refuses, walkOf}
 use Rattle.chain.specs.Steps.{stepped, Path, Returns, Breaks, Once, Unpointed}
 use Rattle.chain.proofs.Steps.{stepped-next, stepped-none, leaves-different, going-most}
-use Rattle.chain.proofs.Walking.{walk-past, walk-back, walk-spent, walk-ends, walk-breaks, Fate, past, ended, broken, back, spent, fate}
-
--- two outcomes that are not one
-lists-refuse : {A : Type 0} {l : List ℕ} {r : ℕ} → lists l ≡ refuses r → A
-lists-refuse e = let z : _≡_ {A = ℕ} 0 1 = cc in absurd (omega arith)
-
-same-number : {a b : ℕ} → refuses a ≡ refuses b → a ≡ b
-same-number e = cc
+use Rattle.chain.proofs.Walking.{walk-past, walk-breaks, Fate, past, ended, broken, back, spent, fate}
 
 -- steps to END, and the ids on them
 pub record Ended (fat : List ℕ) (start : ℕ) (ids : List ℕ) : Type 0 where
@@ -45,59 +38,43 @@ returns-stay {fat} {start} r k p out =
     (below-or (r .steps) k))
     (below-or k (r .steps))
 
+-- in a table of no more sectors than there are regular numbers
 module _ (fat : List ℕ) (start : ℕ) (few : length fat ≤ maxRegular) where
   -- from an outcome to its cause
   pub listed-steps : (ids : List ℕ) → walkOf fat start ≡ lists ids → Ended fat start ids
-  listed-steps ids w = at fate
+  listed-steps ids w = at ids (rw w at (fate fat start few))
     where
-      at : Fate fat start → Ended fat start ids
-      at (past d h) = lists-refuse (sym w ∙ walk-past fat start d h)
-      at (ended k p e) = let same : lists (tab (stepped fat start) k) ≡ lists ids = sym (walk-ends few k p e) ∙ w in
-          record { steps = k; path = p; last = e; met = cc }
-      at (broken b) = lists-refuse (sym w ∙ walk-breaks few b)
-      at (back k h g e) = lists-refuse (sym w ∙ walk-back few g h e)
-      at (spent g) = lists-refuse (sym w ∙ walk-spent few g)
+      at : (l : List ℕ) → Fate fat start (lists l) → Ended fat start l
+      at _ (ended k p e) = record { steps = k; path = p; last = e; met = refl }
 
   refused-past : walkOf fat start ≡ refuses 20 → (start ≢ endOfChain) × (length fat ≤ start)
-  refused-past w = at fate
+  refused-past w = at (rw w at (fate fat start few))
     where
-      at : Fate fat start → (start ≢ endOfChain) × (length fat ≤ start)
+      at : Fate fat start (refuses 20) → (start ≢ endOfChain) × (length fat ≤ start)
       at (past d h) = (d, h)
-      at (ended k p e) = lists-refuse (sym (walk-ends few k p e) ∙ w)
-      at (broken b) = absurd (omega (arith, same-number (sym (walk-breaks few b) ∙ w)))
-      at (back k h g e) = absurd (omega (arith, same-number (sym (walk-back few g h e) ∙ w)))
-      at (spent g) = absurd (omega (arith, same-number (sym (walk-spent few g) ∙ w)))
 
   refused-breaks : walkOf fat start ≡ refuses 21 → Breaks fat start
-  refused-breaks w = at fate
+  refused-breaks w = at (rw w at (fate fat start few))
     where
-      at : Fate fat start → Breaks fat start
-      at (past d h) = absurd (omega (arith, same-number (sym (walk-past fat start d h) ∙ w)))
-      at (ended k p e) = lists-refuse (sym (walk-ends few k p e) ∙ w)
+      at : Fate fat start (refuses 21) → Breaks fat start
       at (broken b) = b
-      at (back k h g e) = absurd (omega (arith, same-number (sym (walk-back few g h e) ∙ w)))
-      at (spent g) = absurd (omega (arith, same-number (sym (walk-spent few g) ∙ w)))
 
   refused-returns : walkOf fat start ≡ refuses 22 → Returns fat start
-  refused-returns w = at fate
+  refused-returns w = at (rw w at (fate fat start few))
     where
-      at : Fate fat start → Returns fat start
-      at (past d h) = absurd (omega (arith, same-number (sym (walk-past fat start d h) ∙ w)))
-      at (ended k p e) = lists-refuse (sym (walk-ends few k p e) ∙ w)
-      at (broken b) = absurd (omega (arith, same-number (sym (walk-breaks few b) ∙ w)))
+      at : Fate fat start (refuses 22) → Returns fat start
       at (back k h g e) = record { steps = suc k; some = omega arith; path = g .path; back = e }
-      at (spent g) = absurd (omega (arith, same-number (sym (walk-spent few g) ∙ w)))
 
   -- from a return to 22
   walk-returns : Once fat → Returns fat start → walkOf fat start ≡ refuses 22
-  walk-returns o r = at fate
+  walk-returns o r = at (walkOf fat start) (fate fat start few)
     where
-      at : Fate fat start → walkOf fat start ≡ refuses 22
-      at (past d h) = absurd (omega (arith, r .path .within 0 (r .some), stepped-none fat start))
-      at (ended k p e) = absurd (returns-stay r k p (omega arith))
-      at (broken b) = absurd (returns-stay r (b .steps) (b .path) (b .outside))
-      at (back k h g e) = walk-back few g h e
-      at (spent g) = absurd (omega (arith, going-most few o g))
+      at : (w : Outcome) → Fate fat start w → w ≡ refuses 22
+      at _ (past d h) = absurd (omega (arith, r .path .within 0 (r .some), stepped-none fat start))
+      at _ (ended k p e) = absurd (returns-stay r k p (omega arith))
+      at _ (broken b) = absurd (returns-stay r (b .steps) (b .path) (b .outside))
+      at _ (back k h g e) = refl
+      at _ (spent g) = absurd (omega (arith, going-most few o g))
 
   -- 20 is given exactly when the start is neither END nor below n
   pub past-exactly : (walkOf fat start ≡ refuses 20) ↔ ((start ≢ endOfChain) × (length fat ≤ start))
@@ -113,13 +90,9 @@ module _ (fat : List ℕ) (start : ℕ) (few : length fat ≤ maxRegular) where
 
   -- where no sector is pointed to twice, n ids are enough
   pub never-spent : Once fat → walkOf fat start ≢ refuses 0
-  never-spent o w = at fate
+  never-spent o w = at (rw w at (fate fat start few))
     where
-      at : Fate fat start → ⊥
-      at (past d h) = omega (arith, same-number (sym (walk-past fat start d h) ∙ w))
-      at (ended k p e) = lists-refuse (sym (walk-ends few k p e) ∙ w)
-      at (broken b) = omega (arith, same-number (sym (walk-breaks few b) ∙ w))
-      at (back k h g e) = omega (arith, same-number (sym (walk-back few g h e) ∙ w))
+      at : Fate fat start (refuses 0) → ⊥
       at (spent g) = omega (arith, going-most few o g)
 
   -- a start that nothing points to never meets 22

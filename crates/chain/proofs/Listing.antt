@@ -33,14 +33,16 @@ left-lists fat start before after ids k w e a =
 
 -- where the loop stands: count steps are taken and listed, and id, where they lead, is END or a sector and not the start
 pub record Walks (fat : List ℕ) (start : ℕ) (before ids : List ℕ) (id count : ℕ) : Type 0 where
+  pub asks : Walkable fat before
   pub here : id ≡ stepped fat start count
   pub going : Going fat start count
   pub onward : leads (length fat) id ≡ true
   pub fresh : 0 < count → id ≢ start
   pub list : ids ≡ tab (stepped fat start) count ++ drop count before
 
-pub walks-begun : (fat : List ℕ) (start : ℕ) (before : List ℕ) → leads (length fat) start ≡ true → Walks fat start before before start 0
-walks-begun fat start before t = record {
+pub walks-begun : (fat : List ℕ) (start : ℕ) (before : List ℕ) → Walkable fat before → leads (length fat) start ≡ true → Walks fat start before before start 0
+walks-begun fat start before a t = record {
+  asks = a;
   here = sym (stepped-none fat start);
   going = going-none;
   onward = t;
@@ -54,51 +56,57 @@ pub walks-past : (fat : List ℕ) (start : ℕ) (before : List ℕ) → length f
 walks-past fat start before few f =
     let c = leads-false (length fat) start few f in left-refuses fat start before before 20 (walk-past fat start (c .0) (c .1))
 
-module _ {fat : List ℕ} {start : ℕ} {before ids : List ℕ} {id count : ℕ} (a : Walkable fat before) (g : Walks fat start before ids id count) where
-  -- the steps so far are at most as many as there are sectors
-  walks-most : count ≤ length fat
-  walks-most = going-most (a .few) (a .once) (g .going)
+module _ {fat : List ℕ} {start : ℕ} {before ids : List ℕ} {id count : ℕ} (g : Walks fat start before ids id count) where
+  -- the steps so far met different sectors, so the list has room for their ids
+  walks-most : count ≤ length before
+  walks-most = omega (arith, going-most (g .asks .few) (g .asks .once) (g .going), g .asks .room)
 
   pub walks-length : length ids ≡ length before
-  walks-length = ap length (g .list) ∙ length-filled (stepped fat start) before count (omega (arith, walks-most, a .room))
+  walks-length = ap length (g .list) ∙ length-filled (stepped fat start) before count walks-most
 
   -- the loop is over: END is met
   pub walks-over : id ≡ endOfChain → WalkLeft fat start before (Listed count) ids
   walks-over e =
-      left-lists fat start before ids (tab (stepped fat start) count) count (walk-ends (a .few) count (g .going .path) (sym (g .here) ∙ e))
+      left-lists fat start before ids (tab (stepped fat start) count) count (walk-ends (g .asks .few) count (g .going .path) (sym (g .here) ∙ e))
       (length-tab (stepped fat start) count) (g .list)
 
--- a turn of the loop, at an id that is not END
-module _ {fat : List ℕ} {start : ℕ} {before ids : List ℕ} {id count : ℕ} (a : Walkable fat before) (g : Walks fat start before ids id count) (more : id ≢ endOfChain) where
-  pub turn-sector : id < length fat
-  turn-sector = leads-true (length fat) id (g .onward) more
+  -- a turn of the loop, at an id that is not END
+  module _ (more : id ≢ endOfChain) where
+    pub turn-sector : id < length fat
+    turn-sector = leads-true (length fat) id (g .onward) more
 
-  turn-going : Going fat start (suc count)
-  turn-going = going-more (g .going) (rw (← g .here) turn-sector) (λ pos. rw (← g .here) (g .fresh pos))
+    turn-going : Going fat start (suc count)
+    turn-going = going-more (g .going) (rw (← g .here) turn-sector) (λ pos. rw (← g .here) (g .fresh pos))
 
-  -- one sector more, different from those before: so there is room for it
-  pub turn-room : count < length fat
-  turn-room = going-most (a .few) (a .once) turn-going
+    -- one sector more, different from those before
+    pub turn-most : count < length fat
+    turn-most = going-most (g .asks .few) (g .asks .once) turn-going
 
-  turn-next : stepped fat start (suc count) ≡ getD fat id 0
-  turn-next = stepped-next fat start count ∙ ap (λ (x : ℕ). getD fat x 0) (sym (g .here))
+    pub turn-room : count < length ids
+    turn-room = omega (arith, turn-most, g .asks .room, walks-length)
 
-  pub turn-on : leads (length fat) (getD fat id 0) ≡ true → getD fat id 0 ≢ start → Walks fat start before (set ids count id) (getD fat id 0) (count + 1)
-  turn-on t d = record {
-    here = rw add-one (sym turn-next);
-    going = rw add-one turn-going;
-    onward = t;
-    fresh = λ pos. d;
-    list = ap (λ (l : List ℕ). set l count id) (g .list) ∙ filled-more (stepped fat start) before count id (omega (arith, turn-room, a .room)) (g .here);
-  }
+    turn-next : stepped fat start (suc count) ≡ getD fat id 0
+    turn-next = stepped-next fat start count ∙ ap (λ (x : ℕ). getD fat x 0) (sym (g .here))
 
-  pub turn-bad : (after : List ℕ) → leads (length fat) (getD fat id 0) ≡ false → WalkLeft fat start before (Refused 21) after
-  turn-bad after f =
-      let c = leads-false (length fat) (getD fat id 0) (a .few) f in
-      left-refuses fat start before after 21 (walk-bad (a .few) turn-going turn-room (rw turn-next (c .1)) (rw turn-next (c .0)))
+    pub turn-on : leads (length fat) (getD fat id 0) ≡ true → getD fat id 0 ≢ start → Walks fat start before (set ids count id) (getD fat id 0) (count + 1)
+    turn-on t d = record {
+      asks = g .asks;
+      here = rw add-one (sym turn-next);
+      going = rw add-one turn-going;
+      onward = t;
+      fresh = λ pos. d;
+      list =
+          ap (λ (l : List ℕ). set l count id) (g .list)
+          ∙ filled-more (stepped fat start) before count id (omega (arith, turn-most, g .asks .room)) (g .here);
+    }
 
-  pub turn-back : (after : List ℕ) → getD fat id 0 ≡ start → WalkLeft fat start before (Refused 22) after
-  turn-back after e = left-refuses fat start before after 22 (walk-back (a .few) turn-going turn-room (turn-next ∙ e))
+    pub turn-bad : (after : List ℕ) → leads (length fat) (getD fat id 0) ≡ false → WalkLeft fat start before (Refused 21) after
+    turn-bad after f =
+        let c = leads-false (length fat) (getD fat id 0) (g .asks .few) f in
+        left-refuses fat start before after 21 (walk-bad (g .asks .few) turn-going turn-most (rw turn-next (c .1)) (rw turn-next (c .0)))
+
+    pub turn-back : (after : List ℕ) → getD fat id 0 ≡ start → WalkLeft fat start before (Refused 22) after
+    turn-back after e = left-refuses fat start before after 22 (walk-back (g .asks .few) turn-going turn-most (turn-next ∙ e))
 
 -- for callers: the outcome that an answer stands for, and the lent list
 answer-lists : (w : Outcome) (k : ℕ) → Listed k ≡ answerOf w → (ids : List ℕ) × (w ≡ lists ids) × (length ids ≡ k)

@@ -172,7 +172,7 @@ module _ {fat : List ℕ} {start : ℕ} (few : length fat ≤ maxRegular) where
       (ap (leads (length fat)) (sym (stepped-next fat start k)) ∙ leads-not (length fat) (stepped fat start (suc k)) d out))
 
   -- with its fuel spent
-  pub walk-spent : Going fat start (suc (length fat)) → walkOf fat start ≡ refuses 0
+  walk-spent : Going fat start (suc (length fat)) → walkOf fat start ≡ refuses 0
   walk-spent g =
       let none : length fat - length fat ≡ 0 = omega arith in
       walk-taken (length fat) (omega arith) (going-start g) (going-taken g)
@@ -212,39 +212,49 @@ module _ {fat : List ℕ} {start : ℕ} (few : length fat ≤ maxRegular) where
       at zero pos p out d = absurd (omega arith)
       at (suc k) pos p out d = walk-bad (leaves-going p out) (leaves-most p out) out d
 
--- how a walk ends
-pub data Fate (fat : List ℕ) (start : ℕ) : Type 0 where
-  past : start ≢ endOfChain → length fat ≤ start → Fate fat start
-  ended : (k : ℕ) → Path fat start k → stepped fat start k ≡ endOfChain → Fate fat start
-  broken : Breaks fat start → Fate fat start
-  back : (k : ℕ) → k < length fat → Going fat start (suc k) → stepped fat start (suc k) ≡ start → Fate fat start
-  spent : Going fat start (suc (length fat)) → Fate fat start
+-- what a walk comes to, with the steps that led there
+pub data Fate (fat : List ℕ) (start : ℕ) : Outcome → Type 0 where
+  past : start ≢ endOfChain → length fat ≤ start → Fate fat start (refuses 20)
+  ended : (k : ℕ) → Path fat start k → stepped fat start k ≡ endOfChain → Fate fat start (lists (tab (stepped fat start) k))
+  broken : Breaks fat start → Fate fat start (refuses 21)
+  back : (k : ℕ) → k < length fat → Going fat start (suc k) → stepped fat start (suc k) ≡ start → Fate fat start (refuses 22)
+  spent : Going fat start (suc (length fat)) → Fate fat start (refuses 0)
 
-module _ {fat : List ℕ} {start : ℕ} where
+module _ (fat : List ℕ) (start : ℕ) (few : length fat ≤ maxRegular) where
+  ends-so : (k : ℕ) → Path fat start k → stepped fat start k ≡ endOfChain → Fate fat start (walkOf fat start)
+  ends-so k p e = rw (walk-ends few k p e) (ended k p e)
+
+  breaks-so : Breaks fat start → Fate fat start (walkOf fat start)
+  breaks-so b = rw (walk-breaks few b) (broken b)
+
   -- d steps more, and the fuel is spent
-  fate-from : (d k : ℕ) → k + d ≡ length fat → Going fat start (suc k) → Fate fat start
-  fate-from zero k e g = let s : k ≡ length fat = omega arith in spent (rw s at g)
+  fate-from : (d k : ℕ) → k + d ≡ length fat → Going fat start (suc k) → Fate fat start (walkOf fat start)
+  fate-from zero k e g =
+      let s : k ≡ length fat = omega arith in
+      let all : Going fat start (suc (length fat)) = rw s at g in
+      rw (walk-spent few all) (spent all)
   fate-from (suc d) k e g =
       ⊎-elim
       (λ (l : stepped fat start (suc k) < length fat).
       ⊎-elim
-      (λ (s : stepped fat start (suc k) ≡ start). back k (omega arith) g s)
+      (λ (s : stepped fat start (suc k) ≡ start). rw (walk-back few g (omega arith) s) (back k (omega arith) g s))
       (λ (n : stepped fat start (suc k) ≢ start). fate-from d (suc k) (omega arith) (going-more g l (λ pos. n)))
       (same-or (stepped fat start (suc k)) start))
       (λ (out : length fat ≤ stepped fat start (suc k)).
       ⊎-elim
-      (λ (s : stepped fat start (suc k) ≡ endOfChain). ended (suc k) (g .path) s)
-      (λ (n : stepped fat start (suc k) ≢ endOfChain). broken (record { steps = suc k; some = omega arith; path = g .path; outside = out; other = n }))
+      (λ (s : stepped fat start (suc k) ≡ endOfChain). ends-so (suc k) (g .path) s)
+      (λ (n : stepped fat start (suc k) ≢ endOfChain). breaks-so (record { steps = suc k; some = omega arith; path = g .path; outside = out; other = n }))
       (same-or (stepped fat start (suc k)) endOfChain))
       (below-or (stepped fat start (suc k)) (length fat))
 
-  pub fate : Fate fat start
+  -- every walk has one of these fates
+  pub fate : Fate fat start (walkOf fat start)
   fate =
       ⊎-elim
       (λ (l : start < length fat). fate-from (length fat) 0 (zero-add (length fat)) (going-more going-none (rw stepped-none l) (λ pos. absurd (omega arith))))
       (λ (h : length fat ≤ start).
       ⊎-elim
-      (λ (e : start ≡ endOfChain). ended 0 (record { within = λ j l. absurd (omega arith) }) (stepped-none fat start ∙ e))
-      (λ (d : start ≢ endOfChain). past d h)
+      (λ (e : start ≡ endOfChain). ends-so 0 (going-none .path) (stepped-none fat start ∙ e))
+      (λ (d : start ≢ endOfChain). rw (walk-past fat start d h) (past d h))
       (same-or start endOfChain))
       (below-or start (length fat))

@@ -27,7 +27,8 @@ fn leads(n: usize, e: u32) -> bool
     (e as usize) < n
 }
 
-// Lists the ids of the chain from start: they stand at the front of ids, and the rest stays. Or 20, 21 or 22, and ids then hold those that were met. The table points at no sector twice, so the walk ends.
+// Lists the ids of the chain from start at the front of ids, and the rest stays; or 20, 21 or 22,
+// and ids then hold those that were met. No sector is pointed to twice, so the walk ends.
 pub fn walk(fat: &[u32], start: u32, ids: &mut [u32]) -> Walked
     requires { ⌜ Walkable (now fat) (now ids) ⌝ }
     ensures { λ r. ⌜ WalkLeft (now (fat .entry)) start (now (ids .entry)) r (now (ids .exit)) ⌝ }
@@ -71,7 +72,8 @@ fn read_at(image: &[u8], s: usize, id: usize, x: usize, out: &mut [u8])
     copy_from(&image[a..b], x, out);
 }
 
-// Reads the chain's bytes from the offset on into the front of buf, a run within a sector at a time: as many as buf has room for or the chain still has. The rest of buf stays.
+// Reads the chain's bytes from the offset on into the front of buf, a run within a sector at a time:
+// as many as buf has room for or the chain still has. The rest of buf stays.
 pub fn read(image: &[u8], s: usize, ids: &[u32], offset: usize, buf: &mut [u8]) -> usize
     requires { ⌜ Readable s (length (now image)) (now ids) offset ⌝ }
     ensures { λ r. ⌜ ReadLeft s (now (image .entry)) (now (ids .entry)) offset (now (buf .entry)) r (now (buf .exit)) ⌝ }

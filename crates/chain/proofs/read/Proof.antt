@@ -1,4 +1,4 @@
--- The invariant: done of the count bytes are over the front of buf. A turn copies a run of the sector that the next byte stands in, and puts it behind them.
+-- The invariant: done of the total bytes are over the front of buf. A turn copies a run of the sector that the next byte stands in, and puts it behind them.
 use Prim.Native.Nat.{_-_}
 use native.Mathlib.Omega.{arith}
 use borrow.Author.Needs.{needs}
