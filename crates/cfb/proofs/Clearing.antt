@@ -4,7 +4,7 @@ use mathlib.Core.Path.{_≡_, refl, sym, _∙_, ap}
 use mathlib.Core.List.{List, [], append-nil}
 use native.Mathlib.Omega.{arith}
 use borrow.Rule.Slice.PartMut.{putMid}
-use lib.ListN.{length, take, drop, replicate, length-replicate, drop-of-length-le}
+use lib.ListN.{length, take, drop, replicate, length-replicate, length-drop, drop-of-length-le}
 use lib.Seq.{take-all, length-take-le}
 use Rattle.lists.specs.Lists.{splice}
 use Rattle.lists.proofs.Splice.{putMid-splice}
@@ -14,11 +14,12 @@ use Rattle.chain.specs.declared.Walked.the-variants.{Listed, Refused}
 use Rattle.cfb.specs.Listed.{cleared}
 
 -- zeros put over all that lies past a place
-pub zeroed-past : (xs run : List ℕ) (from m : ℕ) → from < length xs → run ≡ replicate m 0 → m ≡ length xs - from
+pub zeroed-past : (xs run : List ℕ) (from : ℕ) → from < length xs → run ≡ replicate (length (take (length xs - from) (drop from xs))) 0
     → putMid from (length xs - from) xs run ≡ padded (take from xs) (length xs)
 unfolding splice padded
-zeroed-past xs run from m h e l =
-    let long : length run ≡ length xs - from = ap length e ∙ length-replicate {A = ℕ} m 0 ∙ l in
+zeroed-past xs run from h e =
+    let l : length (take (length xs - from) (drop from xs)) ≡ length xs - from = length-take-le (length xs - from) (drop from xs) (omega (arith, length-drop from xs)) in
+    let long : length run ≡ length xs - from = ap length e ∙ length-replicate {A = ℕ} _ 0 ∙ l in
     let front : length (take from xs) ≡ from = length-take-le from xs (omega arith) in
     let rest : drop (from + length run) xs ≡ [] = drop-of-length-le xs {i = from + length run} (omega arith) in
     putMid-splice from (length xs - from) xs run long ∙ rw (rest, append-nil run, front, e, l)

@@ -1,2 +1,4 @@
+pub mod Agreed
+pub mod Calling
 pub mod Clearing
 pub mod Facing

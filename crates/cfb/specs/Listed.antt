@@ -1,12 +1,16 @@
+-- What the listing of a chain leaves of a lent id list (document 01, "Calls on a chain"). Assumes nothing.
 use Prim.Native.Nat.{ℕ}
 use mathlib.Core.Path.{_≡_}
 use mathlib.Core.List.{List, []}
 use lib.Dec.{eqb}
 use lib.ListN.{length, take}
 use Rattle.lists.specs.Lists.{choose}
+use Rattle.alloc.specs.Opening.{Tables}
 use Rattle.alloc.specs.Opened.{padded}
 use Rattle.chain.specs.declared.Walked.{Walked}
 use Rattle.chain.specs.declared.Walked.the-variants.{Listed, Refused}
+use Rattle.cfb.specs.Calls.{chainNo, chainIds, idsLeft}
+use Rattle.cfb.specs.declared.State.{State}
 
 -- zeros past the ids of a walk, and nothing but zeros beside a refusal
 unfoldable pub cleared : Walked → List ℕ → List ℕ
@@ -14,3 +18,11 @@ unfolding padded
 cleared (Listed count) ids = padded (take count ids) (length ids)
 cleared (Refused k) ids = padded [] (length ids)
 
+-- the answer of a listing that ends with k: so many ids where that is 0
+unfoldable pub walkedAs : ℕ → ℕ → Walked
+walkedAs k count = choose (eqb k 0) (Listed count) (Refused k)
+
+-- a chain is listed: the answer, and the id list
+pub record ChainListed (s : State) (img : List ℕ) (t : Tables) (ids : List ℕ) (start : ℕ) (r : Walked) (ids' : List ℕ) : Type 0 where
+  pub answer : r ≡ walkedAs (chainNo s img t (length ids) start) (length (chainIds s t start))
+  pub list : ids' ≡ idsLeft (chainNo s img t (length ids) start) ids (chainIds s t start)

@@ -44,6 +44,22 @@ pub struct Opened {
     pub state: State,
 }
 
+// The answer of a call on a chain: how many sectors it has, where it starts, and how many bytes were read; or the number of the refusal.
+pub enum Answer {
+    Done {
+        ids: usize,
+        start: u32,
+        bytes: usize,
+    },
+    Refused(u32),
+}
+
+// A call's answer, and the state after it.
+pub struct Called {
+    pub answer: Answer,
+    pub state: State,
+}
+
 impl State {
     // What stands beside a refusal: version 3, strict, all numbers 0.
     pub fn none() -> State

@@ -23,7 +23,7 @@ same-length : tie.Need-same-length
 same-length c = search needs
 
 returns : tie.Need-returns
-returns c = zeroed-past _ _ _ _ (c .before .before .before .before .if1 .taken) (c .before .before .fill32 .ensures) ?m
+returns c = zeroed-past _ _ _ (c .before .before .before .before .if1 .taken) (c .before .before .fill32 .ensures)
 
 returns-2 : tie.Need-returns-2
 returns-2 c = zeroed-none _ _ (c .if1 .left)
