@@ -1,4 +1,5 @@
 pub mod Agreed
+pub mod Answering
 pub mod Calling
 pub mod Clearing
 pub mod Facing

@@ -11,6 +11,9 @@ use Rattle.chain.specs.declared.Walked.{Walked}
 use Rattle.chain.specs.declared.Walked.the-variants.{Listed, Refused}
 use Rattle.cfb.specs.Calls.{chainNo, chainIds, idsLeft}
 use Rattle.cfb.specs.declared.State.{State}
+use Rattle.cfb.specs.declared.Answer.{Answer}
+use Rattle.cfb.specs.declared.Answer.the-variants.{Done}
+use Rattle.cfb.specs.declared.Answer.the-variants as answers
 
 -- zeros past the ids of a walk, and nothing but zeros beside a refusal
 unfoldable pub cleared : Walked → List ℕ → List ℕ
@@ -21,6 +24,11 @@ cleared (Refused k) ids = padded [] (length ids)
 -- the answer of a listing that ends with k: so many ids where that is 0
 unfoldable pub walkedAs : ℕ → ℕ → Walked
 walkedAs k count = choose (eqb k 0) (Listed count) (Refused k)
+
+-- the answer of a call by what its walk answers: a refusal is handed on
+unfoldable pub answerFrom : Walked → ℕ → ℕ → Answer
+answerFrom (Listed count) start bytes = Done count start bytes
+answerFrom (Refused k) start bytes = answers.Refused k
 
 -- a chain is listed: the answer, and the id list
 pub record ChainListed (s : State) (img : List ℕ) (t : Tables) (ids : List ℕ) (start : ℕ) (r : Walked) (ids' : List ℕ) : Type 0 where
