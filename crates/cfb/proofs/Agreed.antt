@@ -69,7 +69,7 @@ pub record Chained (S : ℕ) (img fat : List ℕ) (sectors : ℕ) : Type 0 where
   pub count : length (take sectors fat) ≡ sectors
   pub few : length (take sectors fat) ≤ maxRegular
   pub once : Once (take sectors fat)
-  pub holds : Holds S sectors (length img)
+  pub holds : Holds S (length (take sectors fat)) (length img)
 
 -- what is said of sectors is said of equal ones
 holds-own : (S S' n n' len : ℕ) → S ≡ S' → n ≡ n' → Holds S n len → Holds S' n' len
@@ -92,5 +92,5 @@ agreed-chained m img used sectors free h t a =
       count = count;
       few = omega (arith, known .1, a .count, count);
       once = once-own _ _ front (once-open m img used (shortest t) z);
-      holds = holds-own _ _ _ _ _ (ap (λ (x : Header). lengthOf (x .version)) (sym (a .header))) (sym (a .count)) (known .0);
+      holds = holds-own _ _ _ _ _ (ap (λ (x : Header). lengthOf (x .version)) (sym (a .header))) (sym (a .count) ∙ sym count) (known .0);
     }

@@ -28,13 +28,13 @@ use Rattle.cfb.specs.Listed.{cleared, walkedAs, ChainListed}
 use Rattle.cfb.specs.declared.State.{State}
 
 -- what a walk that is not spent can come to
-data Number : ℕ → Type 0 where
+pub data Number : ℕ → Type 0 where
   is-0 : Number 0
   is-20 : Number 20
   is-21 : Number 21
   is-22 : Number 22
 
-walk-number : (fat : List ℕ) (start : ℕ) → length fat ≤ maxRegular → Once fat → Number (outcomeNo (walkOf fat start))
+pub walk-number : (fat : List ℕ) (start : ℕ) → length fat ≤ maxRegular → Once fat → Number (outcomeNo (walkOf fat start))
 unfolding outcomeNo
 walk-number fat start few once = at (walkOf fat start) refl (fate fat start few)
   where

@@ -3,3 +3,4 @@ pub mod Answering
 pub mod Calling
 pub mod Clearing
 pub mod Facing
+pub mod Lying

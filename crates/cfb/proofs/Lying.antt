@@ -1,0 +1,64 @@
+-- A chain that is listed lies in its image, so its bytes can be read. Assumes nothing.
+use Prim.Native.Nat.{ℕ, _*_, _≤_}
+use mathlib.Core.Path.{_≡_, refl, sym, _∙_, ap}
+use mathlib.Core.Bool.{Bool, true, false, not}
+use mathlib.Core.List.{List, [], _∷_}
+use native.Mathlib.Omega.{arith}
+use borrow.Author.Tests.{not-false, eqb-false}
+use lib.Dec.{eqb}
+use lib.ListN.{length, take}
+use Rattle.lists.specs.Rows.{refusal, distinct, fresh}
+use Rattle.lists.proofs.Rows.{given-none}
+use Rattle.consts.specs.Consts.{maxRegular}
+use Rattle.sectors.specs.Sectors.{Holds}
+use Rattle.alloc.specs.Opening.{Tables}
+use Rattle.agree.specs.Agree.{agreement}
+use Rattle.agree.specs.Agrees.{Agrees}
+use Rattle.chain.specs.Steps.{Once, Sectors}
+use Rattle.chain.specs.Walk.{Outcome, lists, refuses, walkOf}
+use Rattle.chain.specs.Bytes.{Lies, Readable}
+use Rattle.chain.proofs.Exactly.{never-spent}
+use Rattle.chain.proofs.Chains.{walk-sectors}
+use Rattle.chain.proofs.Bytes.{sectors-lie}
+use Rattle.cfb.specs.Calls.{outcomeNo, outcomeIds, stateLen, walked, agreedRows, walkRows, chainRows, chainNo, chainIds}
+use Rattle.cfb.specs.declared.State.{State}
+use Rattle.cfb.proofs.Agreed.{Chained, agreed-chained}
+use Rattle.cfb.proofs.Calling.{Number, is-0, is-20, is-21, is-22, walk-number}
+
+-- an outcome of number 0 that is not a spent walk lists its ids
+outcome-lists : (w : Outcome) → outcomeNo w ≡ 0 → (w ≡ refuses 0 → ⊥) → w ≡ lists (outcomeIds w)
+unfolding outcomeNo outcomeIds
+outcome-lists (lists ids) z n = refl
+outcome-lists (refuses k) z n = absurd (n (ap refuses z))
+
+-- rows 20 to 22 are passed only by the number 0
+passed-0 : (w : ℕ) → Number w → eqb w 20 ≡ false → eqb w 21 ≡ false → eqb w 22 ≡ false → w ≡ 0
+passed-0 _ is-0 a b c = refl
+passed-0 _ is-20 a b c = absurd (eqb-false 20 20 a refl)
+passed-0 _ is-21 a b c = absurd (eqb-false 21 21 b refl)
+passed-0 _ is-22 a b c = absurd (eqb-false 22 22 c refl)
+
+module _ (s : State) (img : List ℕ) (t : Tables) (room start : ℕ) (z : chainNo s img t room start ≡ 0)
+    (told : agreement (s .mode) img (s .used) (s .sectors) (s .free) (s .header) t ≡ true → Agrees (s .mode) img (s .used) (s .sectors) (s .free) (s .header) t) where
+  -- state and tables agree
+  agreed : agreement (s .mode) img (s .used) (s .sectors) (s .free) (s .header) t ≡ true
+  unfolding chainNo chainRows agreedRows walkRows distinct fresh
+  agreed = not-false _ (given-none (chainRows s img t room start) refl z 1 (omega arith))
+
+  known : Chained (stateLen s) img (t .fat) (s .sectors)
+  known = agreed-chained _ img _ _ _ _ t (told agreed)
+
+  -- the walk is not refused
+  number-0 : outcomeNo (walkOf (take (s .sectors) (t .fat)) start) ≡ 0
+  unfolding chainNo chainRows agreedRows walkRows walked distinct fresh
+  number-0 =
+      let none = given-none (chainRows s img t room start) refl z in
+      passed-0 _ (walk-number _ start (known .few) (known .once)) (none 2 (omega arith)) (none 3 (omega arith)) (none 4 (omega arith))
+
+  -- the walk lists the chain
+  lists-chain : walkOf (take (s .sectors) (t .fat)) start ≡ lists (chainIds s t start)
+  unfolding chainIds walked
+  lists-chain = outcome-lists _ number-0 (never-spent _ start (known .few) (known .once))
+
+  pub chain-lies : Lies (stateLen s) (length img) (chainIds s t start)
+  chain-lies = sectors-lie (stateLen s) (length img) (take (s .sectors) (t .fat)) (chainIds s t start) (known .holds) (walk-sectors _ start _ (known .few) lists-chain)
