@@ -76,7 +76,7 @@ same-tables-requires c κs = search needs
 
 returns-3 : tie.Need-returns-3
 unfolding lentTables
-returns-3 c = 
+returns-3 c =
     let opened = at-open c in
     let tested = at-number c in
     let counted = at-counts c in

@@ -29,7 +29,7 @@ same-length c = search needs
 
 returns : tie.Need-returns
 unfolding part
-returns c = 
+returns c =
     let filled = at-fill c in
     entries-put _ (filled .before .before .before .before .pre .1) (filled .fill .ensures) (c .before .before .copy .ensures)
 

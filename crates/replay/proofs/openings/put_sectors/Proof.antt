@@ -53,7 +53,7 @@ same-length c = search needs
 
 returns : tie.Need-returns
 unfolding part
-returns c = 
+returns c =
     let given = at-start c in
     let filled = at-copy c .before .before .before .before .before in
     sectors-put _ (given .args .place) (given .pre .0) (given .pre .1) (given .pre .3) (filled .fill .ensures) (at-copy c .copy .ensures) (c .before .before .put-entries .ensures)

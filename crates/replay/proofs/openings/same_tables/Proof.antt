@@ -94,7 +94,7 @@ same-requires c κs = search needs
 
 returns-5 : tie.Need-returns-5
 unfolding part
-returns-5 c = 
+returns-5 c =
     let fat = at-fat c in
     let frees = at-frees c in
     let fats = at-fats c in
