@@ -1,5 +1,5 @@
 -- From what the library says of an opening to its agreement with an O record. Assumes nothing.
-use Prim.Native.Nat.{ℕ, _+_, _-_, _*_, _<_, _≤_}
+use Prim.Native.Nat.{ℕ, _+_, _-_, _*_}
 use mathlib.Core.Path.{_≡_, refl, _∙_, sym, ap}
 use mathlib.Core.Bool.{true}
 use mathlib.Core.List.{List}
@@ -15,7 +15,7 @@ use Rattle.cfb.specs.Face.{numberOf, tablesOf, stateOf, Opens}
 use Rattle.cfb.specs.declared.State.{State}
 use Rattle.cfb.specs.declared.Opened.{Opened}
 use Rattle.cfb.proofs.Facing.{verdict-number}
-use Rattle.replay.specs.Records.{lengthIn, numberIn, modeIn, numbersIn, placeIn, entriesIn, sectorsIn, imageIn, lentTables, tablesIn, OpenedAs, OpenAgrees}
+use Rattle.replay.specs.Records.{lengthIn, numberIn, modeIn, numbersIn, placeIn, entriesIn, sectorBytes, imageIn, lentTables, tablesIn, OpenedAs, OpenAgrees}
 
 -- entries that are copied over a sector of FREE
 pub entries-put : (b : List ℕ) {n : ℕ} {free out : List ℕ} → n ≡ 512 → free ≡ replicate n 255 → out ≡ splice free 0 (part b 520 96) → out ≡ entriesIn b
@@ -33,8 +33,8 @@ entries-long b l =
 -- a header over zeros, and the entries over their sector
 pub sectors-put : (b : List ℕ) (place : ℕ) {n : ℕ} {zeros headed sector : List ℕ} → length b ≡ 1024 → place ≡ placeIn b → n ≡ 12800 → zeros ≡ replicate n 0
     → headed ≡ splice zeros 0 (part b 8 512) → sector ≡ entriesIn b
-    → putMid (512 * (place + 1)) (512 * (place + 1) + 512 - 512 * (place + 1)) headed sector ≡ sectorsIn b
-unfolding sectorsIn
+    → putMid (512 * (place + 1)) (512 * (place + 1) + 512 - 512 * (place + 1)) headed sector ≡ sectorBytes b
+unfolding sectorBytes
 sectors-put b place {headed = headed} l p i z h s =
     let k : 512 * (place + 1) + 512 - 512 * (place + 1) ≡ 512 = omega arith in
     let top : headed ≡ splice (replicate 12800 0) 0 (part b 8 512) = h ∙ ap (λ (x : List ℕ). splice x 0 (part b 8 512)) (z ∙ ap (λ (m : ℕ). replicate m 0) i) in
@@ -69,6 +69,6 @@ opened-agrees b img {r = r} {img' = img'} {t' = t'} e says n k counts t =
     }
 
 -- the image that was opened is the record's
-pub open-agrees : (b : List ℕ) {n : ℕ} {made : List ℕ} → n ≡ lengthIn b → made ≡ sectorsIn b → OpenedAs b (take (512 * (n + 1)) made) → OpenAgrees b
+pub open-agrees : (b : List ℕ) {n : ℕ} {made : List ℕ} → n ≡ lengthIn b → made ≡ sectorBytes b → OpenedAs b (take (512 * (n + 1)) made) → OpenAgrees b
 unfolding imageIn
 open-agrees b l e opened = rw (← l, ← e) opened

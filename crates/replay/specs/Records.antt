@@ -120,14 +120,14 @@ unfoldable pub entriesIn : List ℕ → List ℕ
 entriesIn b = splice (replicate 512 255) 0 (part b 520 96)
 
 -- a header and 24 sectors: the header's bytes, the entries in their sector, and all others zero
-unfoldable pub sectorsIn : List ℕ → List ℕ
+unfoldable pub sectorBytes : List ℕ → List ℕ
 unfolding placeIn entriesIn
-sectorsIn b = splice (splice (replicate 12800 0) 0 (part b 8 512)) (512 * (placeIn b + 1)) (entriesIn b)
+sectorBytes b = splice (splice (replicate 12800 0) 0 (part b 8 512)) (512 * (placeIn b + 1)) (entriesIn b)
 
 -- the image of the record: the header and as many sectors as there are
 unfoldable pub imageIn : List ℕ → List ℕ
-unfolding lengthIn sectorsIn
-imageIn b = take (512 * (lengthIn b + 1)) (sectorsIn b)
+unfolding lengthIn sectorBytes
+imageIn b = take (512 * (lengthIn b + 1)) (sectorBytes b)
 
 -- the lent tables before an opening: 24 elements each, and every byte 0xaa
 unfoldable pub lentTables : Tables

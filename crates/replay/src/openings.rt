@@ -7,10 +7,13 @@ use crate::records::take_numbers;
 use cfb::State;
 ghost use mathlib.Core.Path.{_≡_};
 ghost use mathlib.Core.Bool.{true};
-ghost use Prim.Native.Nat.{_<_, _≤_};
+ghost use Prim.Native.Nat.{_<_};
 ghost use lib.ListN.{length, getD};
 ghost use Rattle.alloc.specs.Opening.{Tables};
-ghost use Rattle.replay.specs.Records.{numbersIn, placeIn, entriesIn, sectorsIn, tablesIn, OpenedAs, OpenAgrees};
+ghost use Rattle.replay.specs.Records.{numbersIn, placeIn, entriesIn, sectorBytes, tablesIn, OpenedAs, OpenAgrees};
+
+// What a lent table of numbers is full of before an opening; the marks are full of its byte.
+const RUBBISH: u32 = 0xaaaa_aaaa;
 
 // Puts the sector of the FAT: the entries of the record, and FREE behind them.
 fn put_entries(case: &[u8], sector: &mut [u8])
@@ -24,7 +27,7 @@ fn put_entries(case: &[u8], sector: &mut [u8])
 // Puts a header and 24 sectors: the header of the record, its FAT sector in its place, and zeros.
 fn put_sectors(case: &[u8], place: usize, image: &mut [u8])
     requires { ⌜ (length (now case) ≡ 1024) × (place ≡ placeIn (now case)) × (place < 24) × (length (now image) ≡ 12800) ⌝ }
-    ensures { λ _. ⌜ now (image .exit) ≡ sectorsIn (now (case .entry)) ⌝ }
+    ensures { λ _. ⌜ now (image .exit) ≡ sectorBytes (now (case .entry)) ⌝ }
 {
     words::fill(image, 0);
     words::copy(&case[8..520], image);
@@ -86,10 +89,10 @@ fn opened_as(case: &[u8], image: &[u8]) -> bool
     requires { ⌜ length (now case) ≡ 1024 ⌝ }
     ensures { λ r. ⌜ (r ≡ true → OpenedAs (now (case .entry)) (now (image .entry))) ⌝ }
 {
-    let mut fat = [0xaaaa_aaaau32; 24];
-    let mut fats = [0xaaaa_aaaau32; 24];
-    let mut difats = [0xaaaa_aaaau32; 24];
-    let mut frees = [0xaaaa_aaaau32; 24];
+    let mut fat = [RUBBISH; 24];
+    let mut fats = [RUBBISH; 24];
+    let mut difats = [RUBBISH; 24];
+    let mut frees = [RUBBISH; 24];
     let mut marks = [0xaau8; 24];
     let opened = State::open(
         image,

@@ -1,7 +1,6 @@
 -- `openings::same_open` meets its contract: the image that is opened is the record's. Assumes nothing.
 use mathlib.Core.Path.{refl, sym}
 use native.Mathlib.Omega.{arith}
-use lib.ListN.{length-replicate}
 use lib.Seq.{length-take-le}
 use Rattle.replay.specs.Records.{placeIn}
 use Rattle.replay.proofs.Held.{never}
@@ -9,6 +8,13 @@ use Rattle.replay.proofs.Opened.{open-agrees}
 use borrow.Author.Needs.{needs}
 use Rattle.replay.proofs.openings.same_open.Statement.{statement}
 use Rattle.replay.proofs.openings.same_open.Tie as tie
+
+-- the places of the image and of the number of sectors, which lie far back
+abbrev at-put : tie.After-opened-as → tie.After-put-sectors
+at-put c = c .before .before .before
+
+abbrev at-length : tie.After-opened-as → tie.After-length-in
+at-length c = at-put c .before .before .before .before .before
 
 length-in-requires : tie.Need-length-in-requires
 length-in-requires c κs = search needs
@@ -48,7 +54,7 @@ opened-as-requires : tie.Need-opened-as-requires
 opened-as-requires c κs = search needs
 
 returns-3 : tie.Need-returns-3
-returns-3 c = let given = c .before .before .before in λ e. open-agrees _ (given .before .before .before .before .before .length-in .ensures) (given .put-sectors .ensures) (c .opened-as .ensures e)
+returns-3 c = λ e. open-agrees _ (at-length c .length-in .ensures) (at-put c .put-sectors .ensures) (c .opened-as .ensures e)
 
 pub same-open-spec : {M : Type 1} → statement M
 same-open-spec =
