@@ -1,17 +1,17 @@
 //! The fixed list of the Rust's answers, which a program replays with no Rust at hand.
 //!
 //! A record has 1,024 bytes: its kind (R, W, P or O), the mode, the length L of what is lent (two bytes), the
-//! answer's number, three zeros, and then
+//! answer's number, three bytes that only O has, and then
 //! - R: the L bytes of the slice, and at 552 the 117 words after the call;
 //! - W: the 117 words, and at 476 the L bytes of the buffer after the call; byte i was 7i + 3 before it;
 //! - P: the L entries, and at 248 the text of all items, each with a line feed after it; the answer is
 //!   how many items there are;
-//! - O, whose L is the number of sectors, at most 24, and whose three zeros are the sector s of the FAT entries, and the
-//!   counts of FREE sectors and of sectors after the call: 512 bytes of the header, at 520 the 24 entries, and after
-//!   the call at 616 the FAT, at 712 the free list, at 808 the marks, at 832 the FAT sectors and at 928 the DIFAT
-//!   sectors. The lent image is the header and L times 512 bytes, and all of it is used. Sector s, if there is one,
-//!   holds the entries and then FREE, every other byte is zero. Each lent table has 24 elements, every byte of them 0xaa
-//!   before the call, and the record has all 24 after it.
+//! - O: L is how many sectors there are, at most 24; byte 5 is the sector s of the FAT entries, and bytes 6 and 7 count
+//!   the FREE sectors and all sectors of the state after the call. The 512 bytes of the header, at 520 the 24 entries;
+//!   and after the call at 616 the FAT, at 712 the free list, at 808 the marks, at 832 the FAT sectors, at 928 the
+//!   DIFAT sectors. The lent image is the header and L times 512 bytes, all of them used: sector s, where there is one,
+//!   holds the entries and then FREE, and every other byte is zero. Each lent table has 24 elements, which are full of
+//!   0xaa before the call, and the record has all of them after it.
 //!
 //! Whatever is not named is zero. An input is on the list only if the Rust and the specification agree on it.
 

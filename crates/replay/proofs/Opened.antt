@@ -1,5 +1,5 @@
 -- From what the library says of an opening to its agreement with an O record. Assumes nothing.
-use Prim.Native.Nat.{ℕ, _+_, _-_, _*_}
+use Prim.Native.Nat.{ℕ, _+_, _-_, _*_, _≤_}
 use mathlib.Core.Path.{_≡_, refl, _∙_, sym, ap}
 use mathlib.Core.Bool.{true}
 use mathlib.Core.List.{List}
@@ -69,6 +69,7 @@ opened-agrees b img {r = r} {img' = img'} {t' = t'} e says n k counts t =
     }
 
 -- the image that was opened is the record's
-pub open-agrees : (b : List ℕ) {n : ℕ} {made : List ℕ} → n ≡ lengthIn b → made ≡ sectorBytes b → OpenedAs b (take (512 * (n + 1)) made) → OpenAgrees b
+pub open-agrees : (b : List ℕ) {n place : ℕ} {made : List ℕ} → n ≡ lengthIn b → n ≤ 24 → place ≡ placeIn b → place ≤ 23 → made ≡ sectorBytes b → OpenedAs b (take (512 * (n + 1)) made)
+    → OpenAgrees b
 unfolding imageIn
-open-agrees b l e opened = rw (← l, ← e) opened
+open-agrees b {n = n} {place = place} l few p there e opened = record { few = rw (← l) few; place = omega (arith, p, there); opened = rw (← l, ← e) opened }

@@ -1,5 +1,5 @@
 -- What it is for the library to agree with a record of the list: 1,024 bytes that hold one call and its answer. Assumes nothing.
-use Prim.Native.Nat.{ℕ, _+_, _*_, _%_, _≤_}
+use Prim.Native.Nat.{ℕ, _+_, _*_, _%_, _≤_, _<_}
 use mathlib.Core.Path.{_≡_}
 use mathlib.Core.List.{List, [], _∷_}
 use lib.Dec.{eqb}
@@ -146,16 +146,18 @@ tablesIn b =
       marks = part b 808 24;
     }
 
--- opening all bytes of an image gives the number, the counts and the tables of the record
+-- opening all bytes of an image gives the number, the counts and the tables of the record, which has no more of the state
 pub record OpenedAs (b img : List ℕ) : Type 0 where
   pub number : openNo (modeIn b) img (length img) 24 ≡ numberIn b
   pub free : stateOf (numberIn b) (modeIn b) img (length img) .free ≡ getD b 6 0
   pub sectors : stateOf (numberIn b) (modeIn b) img (length img) .sectors ≡ getD b 7 0
   pub tables : tablesLeft (numberIn b) lentTables (tablesOf img (length img)) ≡ tablesIn b
 
--- opening the image of the record gives its number, its counts and its tables
-abbrev pub OpenAgrees : List ℕ → Type 0
-OpenAgrees b = OpenedAs b (imageIn b)
+-- the record describes an image, and opening it gives the number, the counts and the tables of the record
+pub record OpenAgrees (b : List ℕ) : Type 0 where
+  pub few : lengthIn b ≤ 24
+  pub place : placeIn b < 24
+  pub opened : OpenedAs b (imageIn b)
 
 -- the library agrees with the record, by its kind: R, W, P or O
 pub data Agrees (b : List ℕ) : Type 0 where

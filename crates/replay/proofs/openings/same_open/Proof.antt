@@ -54,7 +54,11 @@ opened-as-requires : tie.Need-opened-as-requires
 opened-as-requires c κs = search needs
 
 returns-3 : tie.Need-returns-3
-returns-3 c = λ e. open-agrees _ (at-length c .length-in .ensures) (at-put c .put-sectors .ensures) (c .opened-as .ensures e)
+unfolding placeIn
+returns-3 c =
+    let placed = at-put c .before .before in
+    λ e.
+    open-agrees _ (at-length c .length-in .ensures) (placed .before .before .if1 .left) refl (placed .if2 .left) (at-put c .put-sectors .ensures) (c .opened-as .ensures e)
 
 pub same-open-spec : {M : Type 1} → statement M
 same-open-spec =
