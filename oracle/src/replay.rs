@@ -1,11 +1,17 @@
 //! The fixed list of the Rust's answers, which a program replays with no Rust at hand.
 //!
-//! A record has 1,024 bytes: its kind (R, W or P), the mode, the length L of what is lent (two bytes), the
-//! answer's number, three zeros, and then
+//! A record has 1,024 bytes: its kind (R, W, P or O), the mode, the length L of what is lent (two bytes), the
+//! answer's number, three bytes that only O has, and then
 //! - R: the L bytes of the slice, and at 552 the 117 words after the call;
 //! - W: the 117 words, and at 476 the L bytes of the buffer after the call; byte i was 7i + 3 before it;
 //! - P: the L entries, and at 248 the text of all items, each with a line feed after it; the answer is
-//!   how many items there are.
+//!   how many items there are;
+//! - O: L is how many sectors there are, at most 24; byte 5 is the sector s of the FAT entries, and bytes 6 and 7 count
+//!   the FREE sectors and all sectors of the state after the call. The 512 bytes of the header, at 520 the 24 entries;
+//!   and after the call at 616 the FAT, at 712 the free list, at 808 the marks, at 832 the FAT sectors, at 928 the
+//!   DIFAT sectors. The lent image is the header and L times 512 bytes, all of them used: sector s, where there is one,
+//!   holds the entries and then FREE, and every other byte is zero. Each lent table has 24 elements, which are full of
+//!   0xaa before the call, and the record has all of them after it.
 //!
 //! Whatever is not named is zero. An input is on the list only if the Rust and the specification agree on it.
 
@@ -13,6 +19,8 @@ use crate::abi::{self, Words};
 use crate::inputs::{self, Bytes, END, FREE, HEADER, LISTED, SPECIAL};
 use crate::random::Random;
 use crate::{asked, model};
+
+pub mod opens;
 
 /// Bytes of a record, and where its parts begin.
 pub const RECORD: usize = 1024;
@@ -24,6 +32,7 @@ pub const TEXT: usize = 248;
 pub const READS: usize = 150;
 pub const WRITES: usize = 60;
 pub const LISTS: usize = 40;
+pub const OPENS: usize = 100;
 /// The longest slice and buffer, and the longest list.
 const LONGEST: usize = 540;
 const LIST: usize = 60;
@@ -222,7 +231,7 @@ fn lists(random: &mut Random) -> Vec<Record> {
 /// All records, the same at every run.
 pub fn records() -> Vec<Record> {
     let random = &mut Random::fixed("replay");
-    [reads(random), writes(random), lists(random)].concat()
+    [reads(random), writes(random), lists(random), opens::records()].concat()
 }
 
 /// The whole list, as the file of the program `replay` holds it.

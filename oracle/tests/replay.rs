@@ -1,7 +1,7 @@
 //! The fixed list, replayed: each record is taken apart by its layout alone and asked of the library.
 #![cfg(oracle)]
 
-use oracle::abi;
+use oracle::abi::{self, Tables};
 use oracle::replay::{self, Record};
 
 fn get32(record: &Record, at: usize) -> u32 {
@@ -43,14 +43,57 @@ fn replay_list(record: &Record, len: usize) {
     assert!(record[248 + text.len()..].iter().chain(&record[8 + 4 * len..248]).all(|&byte| byte == 0));
 }
 
+/// The image that an O record describes.
+fn image_in(record: &Record, n: usize) -> Vec<u8> {
+    let mut image = vec![0; 512 * (n + 1)];
+    image[..512].copy_from_slice(&record[8..520]);
+    let start = 512 * (usize::from(record[5]) + 1);
+    if let Some(sector) = image.get_mut(start..start + 512) {
+        sector.fill(0xff);
+        sector[..96].copy_from_slice(&record[520..616]);
+    }
+    image
+}
+
+fn replay_open(record: &Record, n: usize) {
+    assert!(n <= 24 && record[5] < 24);
+    let table = |at: usize| (0..24).map(|i| get32(record, at + 4 * i)).collect();
+    let left = Tables {
+        fat: table(616),
+        fats: table(832),
+        difats: table(928),
+        frees: table(712),
+        marks: record[808..832].to_vec(),
+    };
+    let [fat, fats, difats, frees] = std::array::from_fn(|_| vec![0xaaaa_aaaa; 24]);
+    let mut tables = Tables { fat, fats, difats, frees, marks: vec![0xaa; 24] };
+    let (image, mode, mut state) = (image_in(record, n), record[1].into(), [3; 121]);
+    let number = abi::open(&image, image.len(), mode, &mut tables, &mut state);
+    assert_eq!((number, tables), (record[4].into(), left));
+    // The counts stand in the record, and the header is what the reader gives.
+    let mut words = [1; 117];
+    let expected = match number {
+        0 => {
+            assert_eq!(abi::read_header(&image, mode, &mut words), 0);
+            abi::state_of(mode.into(), image.len() as u64, record[7].into(), record[6].into(), &words)
+        }
+        _ => {
+            assert_eq!(record[6..8], [0; 2]);
+            abi::REFUSED_STATE
+        }
+    };
+    assert_eq!(state, expected);
+}
+
 #[test]
 fn every_record() {
     let records = replay::records();
-    let mut kinds = [0; 3];
+    let mut kinds = [0; 4];
     let mut answers = [[0; 10]; 2];
+    let mut opened = [[0; 19]; 2];
     for record in &records {
         let len = usize::from(record[2]) + 256 * usize::from(record[3]);
-        assert_eq!(record[5..8], [0; 3]);
+        assert!(record[0] == b'O' || record[5..8] == [0; 3]);
         match record[0] {
             b'R' => {
                 replay_read(record, len);
@@ -61,16 +104,25 @@ fn every_record() {
                 replay_write(record, len);
                 kinds[1] += 1;
             }
-            other => {
-                assert_eq!(other, b'P');
+            b'P' => {
                 replay_list(record, len);
                 kinds[2] += 1;
             }
+            other => {
+                assert_eq!(other, b'O');
+                replay_open(record, len);
+                kinds[3] += 1;
+                opened[usize::from(record[1])][usize::from(record[4])] += 1;
+            }
         }
     }
-    assert_eq!(kinds, [150, 60, 40]);
+    assert_eq!(kinds, [150, 60, 40, 100]);
     // Accepted, then refusals 1 to 9; permissive, then strict.
     assert_eq!(answers, [[30, 0, 7, 5, 6, 7, 5, 0, 6, 8], [23, 5, 5, 4, 7, 9, 7, 3, 5, 8]]);
+    // The openings: opened, then refusals 1 to 18.
+    let permissive = [25, 0, 1, 1, 1, 1, 1, 0, 1, 3, 0, 0, 3, 0, 0, 0, 6, 4, 0];
+    let strict = [23, 0, 1, 1, 1, 1, 1, 1, 1, 3, 0, 0, 3, 0, 5, 4, 4, 4, 0];
+    assert_eq!(opened, [permissive, strict]);
 }
 
 #[test]

@@ -7,11 +7,12 @@ use libc::STDIN_FILENO;
 use libc::STDOUT_FILENO;
 use listing::list_text;
 ghost use mathlib.Core.Path.{_≡_};
+ghost use lib.ListN.{take};
 ghost use Rattle.list.specs.Listing.{listing};
 
-// Writes a text, which can only be the listing of the bytes that were read.
-fn write_listing(input: &[u8], text: &[u8])
-    requires { ⌜ now text ≡ listing (now input) ⌝ }
+// Writes a text, which can only be the listing of the first n bytes of the buffer that was read into.
+fn write_listing(input: &[u8; 65537], n: usize, text: &[u8])
+    requires { ⌜ now text ≡ listing (take n (now input)) ⌝ }
 {
     io::write_all(STDOUT_FILENO, text);
 }
@@ -22,5 +23,5 @@ fn main() {
     let n = io::read_full(STDIN_FILENO, &mut input);
     let mut text = [0u8; 4096];
     let len = list_text(&input[..n], &mut text);
-    write_listing(&input[..n], &text[..len]);
+    write_listing(&input, n, &text[..len]);
 }

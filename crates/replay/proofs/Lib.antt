@@ -1,3 +1,4 @@
 pub mod Held
 pub mod Agreed
 pub mod Lined
+pub mod Opened

@@ -1,4 +1,5 @@
-// The three kinds of answers on the list, each asked of the library again.
+// The kinds of answers on the list, each asked of the library again; the openings have a file of their own.
+use crate::openings::same_open;
 use crate::records::RECORD;
 use crate::records::header_in;
 use crate::records::length_in;
@@ -186,6 +187,9 @@ pub(crate) fn same_answer(case: &[u8]) -> bool
         }
         b'P' => {
             return same_list(case);
+        }
+        b'O' => {
+            return same_open(case);
         }
         _ => {
             return false;

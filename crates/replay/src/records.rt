@@ -72,7 +72,7 @@ pub(crate) fn header_in(version: Version, held: &[u8]) -> Header
 }
 
 // Whether two lists hold the same numbers.
-fn same_numbers(a: &[u32], b: &[u32]) -> bool
+pub(crate) fn same_numbers(a: &[u32], b: &[u32]) -> bool
     ensures { λ r. ⌜ r ≡ sameList (now (a .entry)) (now (b .entry)) ⌝ }
 {
     if a.len() != b.len() {

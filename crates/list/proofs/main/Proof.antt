@@ -21,17 +21,11 @@ slice-aggregate-list-text c = search needs
 list-text-requires : tie.Need-list-text-requires
 list-text-requires c κs = search needs
 
-array-share-prefix-input-2 : tie.Need-array-share-prefix-input-2
-array-share-prefix-input-2 c = search needs
-
-slice-aggregate-write-listing : tie.Need-slice-aggregate-write-listing
-slice-aggregate-write-listing c = search needs
-
 array-share-prefix-text : tie.Need-array-share-prefix-text
 array-share-prefix-text c = put-front (c .before .list-text .ensures) .0
 
-slice-aggregate-write-listing-2 : tie.Need-slice-aggregate-write-listing-2
-slice-aggregate-write-listing-2 c = sym (length-take-le _ _ (put-front (c .before .before .list-text .ensures) .0))
+slice-aggregate-write-listing : tie.Need-slice-aggregate-write-listing
+slice-aggregate-write-listing c = sym (length-take-le _ _ (put-front (c .before .before .list-text .ensures) .0))
 
 write-listing-requires : tie.Need-write-listing-requires
 write-listing-requires c κs = put-front (c .before .before .list-text .ensures) .1
@@ -48,9 +42,7 @@ main-spec =
     array-share-prefix-input
     slice-aggregate-list-text
     list-text-requires
-    array-share-prefix-input-2
-    slice-aggregate-write-listing
     array-share-prefix-text
-    slice-aggregate-write-listing-2
+    slice-aggregate-write-listing
     write-listing-requires
     returns)

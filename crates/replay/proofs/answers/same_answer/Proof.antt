@@ -29,8 +29,14 @@ same-list-requires c κs = search needs
 returns-4 : tie.Need-returns-4
 returns-4 c = λ e. Agrees.lists (c .before .match .keys3) (c .same-list .ensures e)
 
+same-open-requires : tie.Need-same-open-requires
+same-open-requires c κs = search needs
+
 returns-5 : tie.Need-returns-5
-returns-5 c = never
+returns-5 c = λ e. Agrees.opens (c .before .match .keys4) (c .same-open .ensures e)
+
+returns-6 : tie.Need-returns-6
+returns-6 c = never
 
 pub same-answer-spec : {M : Type 1} → statement M
 same-answer-spec =
@@ -44,4 +50,6 @@ same-answer-spec =
     returns-3
     same-list-requires
     returns-4
-    returns-5)
+    same-open-requires
+    returns-5
+    returns-6)
