@@ -39,19 +39,19 @@ unfolding padded
 put-front xs ys front n e f l = rw (f, zero-rest xs n e, l)
 
 -- the lengths of what is loaded
-length-openFat : (S : ℕ) (img : List ℕ) (h : Header) (n : ℕ) → length (openFat S img h n) ≡ n
+pub length-openFat : (S : ℕ) (img : List ℕ) (h : Header) (n : ℕ) → length (openFat S img h n) ≡ n
 unfolding openFat forgivenFat
 length-openFat S img h n = length-tab _ n
 
-length-marks : (n : ℕ) (fat : List ℕ) → length (marksOf n fat) ≡ n
+pub length-marks : (n : ℕ) (fat : List ℕ) → length (marksOf n fat) ≡ n
 unfolding marksOf
 length-marks n fat = length-tab _ n
 
-length-fats : (S : ℕ) (img : List ℕ) (h : Header) (n : ℕ) → length (fatsIn S img h n) ≡ fatCount S n
+pub length-fats : (S : ℕ) (img : List ℕ) (h : Header) (n : ℕ) → length (fatsIn S img h n) ≡ fatCount S n
 unfolding fatsIn fatsOf
 length-fats S img h n = length-tab _ (fatCount S n)
 
-length-difats : (S : ℕ) (img : List ℕ) (h : Header) (n : ℕ) → length (difatsIn S img h n) ≡ difatCount S (fatCount S n)
+pub length-difats : (S : ℕ) (img : List ℕ) (h : Header) (n : ℕ) → length (difatsIn S img h n) ≡ difatCount S (fatCount S n)
 unfolding difatsIn difatsOf
 length-difats S img h n = length-tab _ (difatCount S (fatCount S n))
 
