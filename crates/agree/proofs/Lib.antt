@@ -1,0 +1,5 @@
+pub mod Comparing
+pub mod Freeing
+pub mod Pointing
+pub mod Telling
+pub mod Listing

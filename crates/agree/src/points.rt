@@ -56,12 +56,13 @@ pub fn mark_tells(fat: &[u32], scratch: &[u32], marks: &[u8], i: usize) -> bool
     ensures { λ r. ⌜ r ≡ markTells (now (fat .entry)) (now (scratch .entry)) (now (marks .entry)) i ⌝ }
 {
     let p = index(scratch[i]);
-    if p < fat.len() {
-        if index(fat[p]) == i {
-            return marks[i] == 1;
-        }
+    if fat.len() <= p {
+        return marks[i] == 0;
     }
-    marks[i] == 0
+    if index(fat[p]) != i {
+        return marks[i] == 0;
+    }
+    marks[i] == 1
 }
 
 // Whether that holds of every sector.

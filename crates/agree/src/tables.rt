@@ -33,11 +33,10 @@ pub fn is_forgiven(raw: &[u32], fat: &[u32]) -> bool
     requires { ⌜ length (now raw) ≡ length (now fat) ⌝ }
     ensures { λ r. ⌜ r ≡ sameList (now (fat .entry)) (forgivenFat (length (now (fat .entry))) (now (raw .entry))) ⌝ }
 {
-    let n = fat.len();
     let mut same = true;
     let mut i = 0;
-    while i < n {
-        same = same & (fat[i] == forgiven(n, raw[i]));
+    while i < fat.len() {
+        same = same & (fat[i] == forgiven(fat.len(), raw[i]));
         i += 1;
     }
     same
