@@ -3,3 +3,4 @@ pub mod Freeing
 pub mod Pointing
 pub mod Telling
 pub mod Listing
+pub mod Judging

@@ -2,18 +2,19 @@
 use Prim.Native.Nat.{ℕ, _≤_}
 use mathlib.Core.Path.{_≡_, refl, sym, _∙_, ap}
 use mathlib.Core.Bool.{Bool, true, false}
-use mathlib.Core.List.{List}
+use mathlib.Core.List.{List, _++_}
 use mathlib.Core.Logic.{⊎-elim}
 use native.Mathlib.Omega.{arith}
-use lib.ListN.{length}
+use lib.ListN.{length, take, drop, length-append, length-drop}
+use lib.Seq.{length-take-le}
 use Rattle.lists.specs.Lists.{both, sameList}
 use Rattle.lists.proofs.Cases.{true-or, not-both, both-of-true, both-left, both-right, both-false-left}
 use Rattle.lists.proofs.Splice.{sameList-true}
 use Rattle.header.specs.declared.Header.{Header}
 use Rattle.fat.specs.Lists.{difatCount, difatAt, difatsOf, fatsOf, difatsIn, fatsIn, allBelow, different, ends, countsRight, chainRight, restFree, idsRight, fatsRight}
-use Rattle.fat.specs.Loaded.{ChainListed, PlacesListed}
+use Rattle.fat.specs.Loaded.{ChainListed, Places, PlacesListed}
 use Rattle.fat.proofs.Listing.{by-counts, fats-few, difats-few, places-reach, places-few}
-use Rattle.agree.specs.Parts.{ChainLent, PlacesLent, ListsLent, listsSame}
+use Rattle.agree.specs.Parts.{ChainLent, PlacesLent, PlacesRoom, ListsLent, listsSame}
 use Rattle.agree.proofs.Comparing.{same-of}
 
 -- what holds where a test does decides the test
@@ -26,6 +27,9 @@ chain-as-long S img n first d d' r room e c = rw e at c
 
 pub places-as-long : (S : ℕ) (img : List ℕ) (n : ℕ) (list difats : List ℕ) (k k' : ℕ) (r : Bool) (room : List ℕ) → k' ≡ k → PlacesListed S img n list difats k' r room → PlacesListed S img n list difats k r room
 places-as-long S img n list difats k k' r room e c = rw e at c
+
+pub places-room : (S n len : ℕ) (list difats : List ℕ) (k room : ℕ) → PlacesRoom S n len list difats k room → Places S n len list difats room
+places-room S n len list difats k room p = rw (p .same) (p .places)
 
 -- the DIFAT chain, listed into a room and compared
 module _ (S : ℕ) (img : List ℕ) (n first d : ℕ) (difats : List ℕ) where
@@ -124,6 +128,16 @@ module _ (S : ℕ) (img : List ℕ) (n : ℕ) (list difats : List ℕ) (k : ℕ)
   unfolding fatsRight
   fats-followed f = sym (both-false-left (both followed (idsRight n (fatsOf S img list difats k))) equal (both-false-left followed (idsRight n (fatsOf S img list difats k)) f))
 
+-- the DIFAT's list fits into the scratch
+pub lists-chained : (S n len k d scratch : ℕ) → ListsLent S n len k d scratch → ChainLent S n len d scratch
+lists-chained S n len k d scratch l =
+    let few : d ≤ n = difats-few S n len k d (l .counted) in
+    record { holds = l .counted .holds; few = omega (arith, l .counted .few); within = omega (arith, l .below); below = l .below }
+
+-- a scratch whose front was lent and came back is as long as it was
+pub relent : (front before : List ℕ) (d n : ℕ) → length front ≡ length (take d before) → d ≤ length before → n ≤ length before → n ≤ length (front ++ drop d before)
+relent front before d n e h l = rw length-append (omega (arith, length-take-le d before h, length-drop d before))
+
 -- both lists, of the counts that n sectors ask for
 module _ (S : ℕ) (img : List ℕ) (h : Header) (n : ℕ) (fats difats : List ℕ) (len scratch : ℕ) (l : ListsLent S n len (length fats) (length difats) scratch) where
   in-difats : difatsIn S img h n ≡ difatsOf S img (h .difat) (length difats)
@@ -181,9 +195,9 @@ module _ (S : ℕ) (img : List ℕ) (h : Header) (n : ℕ) (fats difats : List �
         rest a b c d e p q u = rw (p, q, u)
 
     -- the DIFAT sectors are below n, and so the places can be read
-    pub lists-places : (list : List ℕ) → length list ≡ 109 → r ≡ true → PlacesLent S n len list difats (length fats) scratch
+    pub lists-places : (list : List ℕ) (room : ℕ) → length list ≡ 109 → room ≡ scratch → r ≡ true → PlacesLent S n len list difats (length fats) room
     unfolding chainRight
-    lists-places list w t =
+    lists-places list room w kept t =
         let few : length fats ≤ n = fats-few S n len (length fats) (length difats) (l .counted) in
         record {
           places = record {
@@ -195,10 +209,5 @@ module _ (S : ℕ) (img : List ℕ) (h : Header) (n : ℕ) (fats difats : List �
           };
           few = omega (arith, l .counted .few);
           within = omega (arith, l .below);
-          below = l .below;
+          below = omega (arith, l .below);
         }
-
-  pub lists-chained : ChainLent S n len (length difats) scratch
-  lists-chained =
-      let few : length difats ≤ n = difats-few S n len (length fats) (length difats) (l .counted) in
-      record { holds = l .counted .holds; few = omega (arith, l .counted .few); within = omega (arith, l .below); below = l .below }

@@ -10,7 +10,8 @@ use judge::judged::unmarked;
 use judge::marks::set_listed;
 ghost use mathlib.Core.Path.{_≡_};
 ghost use lib.ListN.{length};
-ghost use Rattle.lists.specs.Lists.{sameList};
+ghost use mathlib.Core.Bool.{not};
+ghost use Rattle.lists.specs.Lists.{both, sameList};
 ghost use Rattle.fat.specs.Lists.{fatOf};
 ghost use Rattle.judge.specs.Judge.{forgiven as forgivenOf, forgivenFat};
 ghost use Rattle.agree.specs.Parts.{FatLent, TablesLent, fatSame, tablesSame};
@@ -42,6 +43,16 @@ pub fn is_forgiven(raw: &[u32], fat: &[u32]) -> bool
     same
 }
 
+// Whether a FAT is another one, if that matters: strict forgives nothing.
+pub fn stays(strict: bool, raw: &[u32], fat: &[u32]) -> bool
+    ensures { λ r. ⌜ r ≡ not (both strict (not (sameList (now (fat .entry)) (now (raw .entry))))) ⌝ }
+{
+    if !strict {
+        return true;
+    }
+    same_numbers(fat, raw)
+}
+
 // Whether a FAT is that of the image, marked and forgiven, where strict has nothing to mark or forgive. The room, as long as the FAT, is written over.
 pub fn same_fat(
     image: &[u8],
@@ -60,10 +71,8 @@ pub fn same_fat(
         return false;
     }
     set_listed(room, difats, fats);
-    if strict {
-        if !same_numbers(fat, room) {
-            return false;
-        }
+    if !stays(strict, room, fat) {
+        return false;
     }
     is_forgiven(room, fat)
 }

@@ -21,7 +21,7 @@ zero-bytes-requires : tie.Need-zero-bytes-requires
 zero-bytes-requires c κs = search needs
 
 returns-2 : tie.Need-returns-2
-returns-2 c = c .zero-bytes .ensures ∙ zeros-rest _ _
+returns-2 c = c .zero-bytes .ensures ∙ zeros-rest (c .before .before .before .before .args .xs .now) (c .before .before .before .before .args .from)
 
 pub zero-bytes-from-spec : {M : Type 1} → statement M
 zero-bytes-from-spec =

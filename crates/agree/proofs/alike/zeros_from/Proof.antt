@@ -24,7 +24,7 @@ zeros-requires : tie.Need-zeros-requires
 zeros-requires c κs = search needs
 
 returns-2 : tie.Need-returns-2
-returns-2 c = c .zeros .ensures ∙ zeros-rest _ _
+returns-2 c = c .zeros .ensures ∙ zeros-rest (c .before .before .before .before .args .xs .now) (c .before .before .before .before .args .from)
 
 pub zeros-from-spec : {M : Type 1} → statement M
 zeros-from-spec =

@@ -1,47 +1,47 @@
+-- The counts, the DIFAT's list and the FAT's are tested in turn. The DIFAT's list is the chain, so the places are read from it.
+use mathlib.Core.Path.{_≡_, sym, _∙_}
+use native.Mathlib.Omega.{arith}
+use borrow.Author.Tests.{not-true, not-false}
+use lib.ListN.{length}
+use Rattle.agree.proofs.Listing.{lists-chained, lists-counts, lists-chain, lists-places, lists-told}
 use borrow.Author.Needs.{needs}
 use Rattle.agree.proofs.listed.same_lists.Statement.{statement}
 use Rattle.agree.proofs.listed.same_lists.Tie as tie
-use Rattle.agree.proofs.listed.same_lists.Reads as reads
-use Rattle.agree.proofs.listed.same_lists.Lts as lts
-use Rattle.agree.proofs.listed.same_difats.Reads as same-difats-reads
-use Rattle.agree.proofs.listed.same_fats.Reads as same-fats-reads
-use Rattle.fat.proofs.listed.counts_right.Reads as counts-right-reads
 
--- src/listed.rt:107:9
+-- the header's list has its 109 entries
+entries-there : (c : tie.After-list2) → length (c .before .before .before .before .before .before .before .before .before .before .before .before .before .args .h .list) ≡ 109
+entries-there c = search needs
+
 counts-right-requires : tie.Need-counts-right-requires
 counts-right-requires c κs = search needs
 
--- src/listed.rt:108:9
 returns : tie.Need-returns
-returns c = ?
+returns c = lists-counts _ _ _ _ _ _ _ _ (c .before .before .before .before .before .before .pre) (sym (c .before .counts-right .ensures) ∙ not-true _ (c .if1 .taken))
 
--- src/listed.rt:110:9
 same-difats-requires : tie.Need-same-difats-requires
-same-difats-requires c κs = ?
+same-difats-requires c κs = lists-chained _ _ _ _ _ _ (c .before .before .before .before .before .before .before .pre)
 
--- src/listed.rt:111:9
 same-length : tie.Need-same-length
 same-length c = search needs
 
--- src/listed.rt:111:9
 returns-2 : tie.Need-returns-2
-returns-2 c = ?
+returns-2 c = lists-chain _ _ _ _ _ _ _ _ (c .before .before .before .before .before .before .before .before .before .before .before .pre) _ (c .before .before .before .same-difats .ensures) (not-true _ (c .if2 .taken))
 
--- src/listed.rt:114:28
 slice-aggregate-same-fats : tie.Need-slice-aggregate-same-fats
 slice-aggregate-same-fats c = search needs
 
--- src/listed.rt:114:5
 same-fats-requires : tie.Need-same-fats-requires
-same-fats-requires c κs = ?
+same-fats-requires c κs =
+    let i = c .before .before .before .before .before .before in
+    let g = c .before .before .before .before .before .before .before .before .before .before .before .before .before .before in
+    lists-places _ _ _ _ _ _ _ _ (g .pre) _ (i .same-difats .ensures) _ _ (entries-there (c .before)) (i .same-difats .kept .1 .1 .1 .1 .1 .0) (not-false _ (c .before .before .before .if2 .left))
 
--- src/listed.rt:95:1
 same-length-2 : tie.Need-same-length-2
 same-length-2 c = search needs
 
--- src/listed.rt:95:1
 returns-3 : tie.Need-returns-3
-returns-3 c = ?
+returns-3 c =
+    lists-told _ _ _ _ _ _ _ _ (c .before .before .before .before .before .before .before .before .before .before .before .before .before .before .before .before .before .pre) _ (c .before .before .before .before .before .before .before .before .before .same-difats .ensures) _ (sym (c .before .before .before .before .before .before .before .before .before .before .before .before .counts-right .ensures) ∙ not-false _ (c .before .before .before .before .before .before .before .before .before .before .before .if1 .left)) (not-false _ (c .before .before .before .before .before .before .if2 .left)) (c .before .before .same-fats .ensures)
 
 pub same-lists-spec : {M : Type 1} → statement M
 same-lists-spec =

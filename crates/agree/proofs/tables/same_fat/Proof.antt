@@ -3,53 +3,53 @@ use Rattle.agree.proofs.tables.same_fat.Statement.{statement}
 use Rattle.agree.proofs.tables.same_fat.Tie as tie
 use Rattle.agree.proofs.tables.same_fat.Reads as reads
 use Rattle.agree.proofs.tables.same_fat.Lts as lts
-use Rattle.agree.proofs.alike.same_numbers.Reads as same-numbers-reads
 use Rattle.agree.proofs.tables.is_forgiven.Reads as is-forgiven-reads
+use Rattle.agree.proofs.tables.stays.Reads as stays-reads
 use Rattle.fat.proofs.load.load_fat.Reads as load-fat-reads
 use Rattle.judge.proofs.judged.unmarked.Reads as unmarked-reads
 use Rattle.judge.proofs.marks.set_listed.Reads as set-listed-reads
 
--- src/tables.rt:59:5
+-- src/tables.rt:69:5
 load-fat-requires : tie.Need-load-fat-requires
 load-fat-requires c κs = search needs
 
--- src/tables.rt:60:8
+-- src/tables.rt:70:8
 unmarked-requires : tie.Need-unmarked-requires
 unmarked-requires c κs = ?
 
--- src/tables.rt:61:9
+-- src/tables.rt:71:9
 same-length : tie.Need-same-length
 same-length c = search needs
 
--- src/tables.rt:61:9
+-- src/tables.rt:71:9
 returns : tie.Need-returns
 returns c = ?
 
--- src/tables.rt:63:5
+-- src/tables.rt:73:5
 set-listed-requires : tie.Need-set-listed-requires
 set-listed-requires c κs = ?
 
--- src/tables.rt:65:13
-same-numbers-requires : tie.Need-same-numbers-requires
-same-numbers-requires c κs = search needs
+-- src/tables.rt:74:9
+stays-requires : tie.Need-stays-requires
+stays-requires c κs = search needs
 
--- src/tables.rt:66:13
+-- src/tables.rt:75:9
 same-length-2 : tie.Need-same-length-2
 same-length-2 c = search needs
 
--- src/tables.rt:66:13
+-- src/tables.rt:75:9
 returns-2 : tie.Need-returns-2
 returns-2 c = ?
 
--- src/tables.rt:69:5
+-- src/tables.rt:77:5
 is-forgiven-requires : tie.Need-is-forgiven-requires
 is-forgiven-requires c κs = search needs
 
--- src/tables.rt:47:1
+-- src/tables.rt:57:1
 same-length-3 : tie.Need-same-length-3
 same-length-3 c = search needs
 
--- src/tables.rt:47:1
+-- src/tables.rt:57:1
 returns-3 : tie.Need-returns-3
 returns-3 c = ?
 
@@ -62,7 +62,7 @@ same-fat-spec =
     same-length
     returns
     set-listed-requires
-    same-numbers-requires
+    stays-requires
     same-length-2
     returns-2
     is-forgiven-requires
