@@ -3,7 +3,7 @@ use Prim.Native.Nat.{ℕ, zero, suc, _+_, _≤_, _<_}
 use mathlib.Core.Path.{_≡_, refl, sym, _∙_, ap}
 use mathlib.Core.Bool.{Bool, true, false, not}
 use mathlib.Core.List.{List, [], _∷_}
-use mathlib.Core.Logic.{⊎-elim, _≢_}
+use mathlib.Core.Logic.{_⊎_, ⊎-elim, _≢_}
 use native.Mathlib.Omega.{arith}
 use borrow.Author.Tests.{le-leb, lt-leb, eq-eqb, ne-eqb, not-true, not-false}
 use lib.Dec.{eqb, leb}
@@ -19,19 +19,20 @@ use Rattle.consts.specs.Consts.{maxRegular, invalidSector, endOfChain, difatSec
 use Rattle.judge.specs.Judge.{allMarked, markedFat, regular, forgiven, pointed, wrongAt, firstWrong, forgivenFat, marksOf, noneDangles, fatRows}
 use Rattle.judge.proofs.Judging.{pointed-by, pointer-of, forgiven-low, forgiven-kind, forgiven-high}
 use Rattle.judge.proofs.Rows.{fat-rest}
-use Rattle.agree.specs.Parts.{listedMarked, fatSame, pointsOnce, pointsSame}
+use Rattle.fat.specs.Loaded.{Covers}
+use Rattle.judge.proofs.Marking.{length-markedFat}
+use Rattle.agree.specs.Parts.{FatLent, listedMarked, fatSame, pointsOnce}
 use Rattle.agree.proofs.Comparing.{same-of}
 use Rattle.agree.proofs.Pointing.{Once, points-exactly}
 
 -- an entry of which nothing is wrong, seen from each side
 module _ (strict : Bool) (n : ℕ) (fat : List ℕ) (i : ℕ) (small : n ≤ maxRegular) where
   wrong-reserved : wrongAt strict n fat i ≡ 0 → getD fat i 0 ≢ invalidSector
-  unfolding wrongAt
+  unfolding wrongAt regular
   wrong-reserved z e = let q : _≡_ {A = ℕ} 17 0 = sym (seventeen e) ∙ z in omega arith
     where
       seventeen : getD fat i 0 ≡ invalidSector
-          → choose (regular (getD fat i 0)) (choose (leb n (getD fat i 0)) (choose strict 15 0) (choose (pointed fat i (getD fat i 0)) 16 0)) (choose (eqb (getD fat i 0) invalidSector) 17 0) ≡ 17
-      unfolding regular
+          → _≡_ {A = ℕ} (choose (regular (getD fat i 0)) (choose (leb n (getD fat i 0)) (choose strict 15 0) (choose (pointed fat i (getD fat i 0)) 16 0)) (choose (eqb (getD fat i 0) invalidSector) 17 0)) 17
       seventeen e = rw e
 
   wrong-twice : wrongAt strict n fat i ≡ 0 → getD fat i 0 < n → pointed fat i (getD fat i 0) ≡ false
@@ -66,7 +67,7 @@ module _ (strict : Bool) (n : ℕ) (fat : List ℕ) (i : ℕ) (small : n ≤ max
       (below-or maxRegular (getD fat i 0)))
       (below-or (getD fat i 0) n)
     where
-      lax : (strict ≡ true → ⊥) → (strict ≡ true) mathlib.Core.Logic.⊎ (strict ≡ false) → choose strict 15 0 ≡ 0
+      lax : (strict ≡ true → ⊥) → (strict ≡ true) ⊎ (strict ≡ false) → _≡_ {A = ℕ} (choose strict 15 0) 0
       lax no-strict c = ⊎-elim (λ (s : strict ≡ true). absurd (no-strict s)) (λ (s : strict ≡ false). rw s) c
 
 -- nothing is wrong with a FAT exactly when nothing is wrong with any entry
@@ -195,10 +196,10 @@ module _ (strict : Bool) (raw difats fats : List ℕ) where
       (λ (e : firstWrong strict (length raw) marked 0 (length raw) ≡ 0). e)
       (λ (d : firstWrong strict (length raw) marked 0 (length raw) ≢ 0). absurd (d (sym (rows-left m ∙ rw (ne-eqb (firstWrong strict (length raw) marked 0 (length raw)) 0 d)) ∙ z)))
       (same-or _ 0) in
-      let d : choose (not (noneDangles (length raw) (forgivenFat (length raw) marked))) 18 0 ≡ 0 = sym (rows-left m ∙ rw (eq-eqb (firstWrong strict (length raw) marked 0 (length raw)) 0 w)) ∙ z in
+      let d : _≡_ {A = ℕ} (choose (not (noneDangles (length raw) (forgivenFat (length raw) marked))) 18 0) 0 = sym (rows-left m ∙ rw (eq-eqb (firstWrong strict (length raw) marked 0 (length raw)) 0 w)) ∙ z in
       (m, w, last (noneDangles (length raw) (forgivenFat (length raw) marked)) d)
     where
-      last : (t : Bool) → choose (not t) 18 0 ≡ 0 → t ≡ true
+      last : (t : Bool) → _≡_ {A = ℕ} (choose (not t) 18 0) 0 → t ≡ true
       last true d = refl
       last false d = absurd (omega arith)
 
@@ -206,3 +207,113 @@ module _ (strict : Bool) (raw difats fats : List ℕ) where
       → refusal (fatRows strict (length raw) raw difats fats) ≡ 0
   unfolding refusal
   right-rows m w d = rows-left m ∙ rw (eq-eqb (firstWrong strict (length raw) marked 0 (length raw)) 0 w) (ap (λ (t : Bool). choose (not t) 18 0) d)
+
+-- a FAT that is tested in turn against that of the bytes, which is loaded into a room and marked there
+module _ (strict : Bool) (raw difats fats fat one : List ℕ) (e : one ≡ raw) where
+  abbrev unlisted : Bool
+  unlisted = both strict (not (both (allMarked one difats difatSector) (allMarked one fats fatSector)))
+
+  by-room : fatSame strict raw difats fats fat
+      ≡ both (not unlisted) (both (not (both strict (not (sameList fat (markedFat one difats fats))))) (sameList fat (forgivenFat (length fat) (markedFat one difats fats))))
+  unfolding fatSame listedMarked
+  by-room = rw e
+
+  pub fat-unmarked : (q : Bool) → q ≡ unlisted → q ≡ true → false ≡ fatSame strict raw difats fats fat
+  fat-unmarked q h t = sym (by-room ∙ both-false-left (not unlisted) _ (ap not (sym h ∙ t)))
+
+  module _ (two : List ℕ) (f : two ≡ markedFat one difats fats) where
+    by-two : fatSame strict raw difats fats fat ≡ both (not unlisted) (both (not (both strict (not (sameList fat two)))) (sameList fat (forgivenFat (length fat) two)))
+    by-two = by-room ∙ ap (λ (m : List ℕ). both (not unlisted) (both (not (both strict (not (sameList fat m)))) (sameList fat (forgivenFat (length fat) m)))) (sym f)
+
+    pub fat-differs : (q : Bool) → q ≡ not (both strict (not (sameList fat two))) → q ≡ false → false ≡ fatSame strict raw difats fats fat
+    fat-differs q h t = sym (by-two ∙ both-false-right (not unlisted) _ (both-false-left (not (both strict (not (sameList fat two)))) (sameList fat (forgivenFat (length fat) two)) (sym h ∙ t)))
+
+    pub fat-told : (q p r : Bool) → q ≡ unlisted → q ≡ false → p ≡ not (both strict (not (sameList fat two))) → p ≡ true → r ≡ sameList fat (forgivenFat (length fat) two) → r ≡ fatSame strict raw difats fats fat
+    fat-told q p r h t k s g = g ∙ sym (by-two ∙ rest (not unlisted) (not (both strict (not (sameList fat two)))) (sameList fat (forgivenFat (length fat) two)) (ap not (sym h ∙ t)) (sym k ∙ s))
+      where
+        rest : (a b c : Bool) → a ≡ true → b ≡ true → both a (both b c) ≡ c
+        rest a b c x y = rw (x, y)
+
+-- whether a FAT stays as it is matters to strict alone
+pub stays-lax : (strict : Bool) (fat raw : List ℕ) → strict ≡ false → true ≡ not (both strict (not (sameList fat raw)))
+stays-lax strict fat raw e = sym (rw e)
+
+pub stays-strict : (strict r : Bool) (fat raw : List ℕ) → strict ≡ true → r ≡ sameList fat raw → r ≡ not (both strict (not (sameList fat raw)))
+stays-strict strict r fat raw e h = h ∙ sym (rw e (twice (sameList fat raw)))
+  where
+    twice : (b : Bool) → not (not b) ≡ b
+    twice true = refl
+    twice false = refl
+
+-- the entries lie in the sectors, as many as the room holds
+pub covers-room : (S len : ℕ) (difats fats : List ℕ) (n room : ℕ) → FatLent S len difats fats n room → Covers S n len fats room
+covers-room S len difats fats n room p = rw (p .same) (p .covers)
+
+-- the rows 14 to 18, passed
+pub record Passed (strict : Bool) (n : ℕ) (raw difats fats : List ℕ) : Type 0 where
+  pub unmarked : both strict (not (listedMarked raw difats fats)) ≡ false
+  pub right : firstWrong strict n (markedFat raw difats fats) 0 n ≡ 0
+  pub sound : noneDangles n (forgivenFat n (markedFat raw difats fats)) ≡ true
+
+pub rows-passed : (strict : Bool) (n : ℕ) (raw difats fats : List ℕ) → length raw ≡ n → refusal (fatRows strict n raw difats fats) ≡ 0 → Passed strict n raw difats fats
+rows-passed strict n raw difats fats e z =
+    rw (← e) (let q = rows-right strict raw difats fats (ap (λ (k : ℕ). refusal (fatRows strict k raw difats fats)) e ∙ z) in record { unmarked = q .0; right = q .1; sound = q .2 })
+
+pub passed-rows : (strict : Bool) (n : ℕ) (raw difats fats : List ℕ) → length raw ≡ n → Passed strict n raw difats fats → refusal (fatRows strict n raw difats fats) ≡ 0
+passed-rows strict n raw difats fats e p =
+    let q : Passed strict (length raw) raw difats fats = rw e p in
+    ap (λ (k : ℕ). refusal (fatRows strict k raw difats fats)) (sym e) ∙ right-rows strict raw difats fats (q .unmarked) (q .right) (q .sound)
+
+-- a FAT that is the image's passes the test, and the entries of one that passes decide the rest
+module _ (strict : Bool) (n : ℕ) (raw difats fats fat : List ℕ) (small : n ≤ maxRegular) (wide : length raw ≡ n) (long : length fat ≡ n) where
+  abbrev M : List ℕ
+  M = markedFat raw difats fats
+
+  long-marked : length M ≡ n
+  long-marked = length-markedFat raw difats fats ∙ wide
+
+  pub same-fat : fat ≡ forgivenFat n M → Passed strict n raw difats fats → fatSame strict raw difats fats fat ≡ true
+  unfolding fatSame
+  same-fat e p =
+      let k : not (both strict (not (sameList fat M))) ≡ true =
+      ⊎-elim
+      (λ (s : strict ≡ true). rw (s, same-of fat M (e ∙ stays-of strict n M small long-marked (p .right) s)))
+      (λ (s : strict ≡ false). rw s)
+      (true-or strict) in
+      both-true (ap not (p .unmarked)) (both-true k (same-of fat _ (e ∙ ap (λ (k : ℕ). forgivenFat k M) (sym long))))
+
+  pub fat-forgiven : fatSame strict raw difats fats fat ≡ true → fat ≡ forgivenFat n M
+  unfolding fatSame
+  fat-forgiven t =
+      sameList-true _ _ (both-right (not (both strict (not (sameList fat M)))) _ (both-right (not (both strict (not (listedMarked raw difats fats)))) _ t))
+      ∙ ap (λ (k : ℕ). forgivenFat k M) long
+
+  fat-stays : fatSame strict raw difats fats fat ≡ true → strict ≡ true → fat ≡ M
+  unfolding fatSame
+  fat-stays t s =
+      let k : not (both strict (not (sameList fat M))) ≡ true =
+      both-left (not (both strict (not (sameList fat M)))) (sameList fat (forgivenFat (length fat) M)) (both-right (not (both strict (not (listedMarked raw difats fats)))) _ t) in
+      sameList-true _ _ (strictly (sameList fat M) (rw s at k))
+    where
+      strictly : (b : Bool) → not (both true (not b)) ≡ true → b ≡ true
+      strictly true q = refl
+      strictly false q = q
+
+  fat-marked : fatSame strict raw difats fats fat ≡ true → both strict (not (listedMarked raw difats fats)) ≡ false
+  unfolding fatSame
+  fat-marked t = not-true _ (both-left (not (both strict (not (listedMarked raw difats fats)))) (both (not (both strict (not (sameList fat M)))) (sameList fat (forgivenFat (length fat) M))) t)
+
+  pub points-passed : fatSame strict raw difats fats fat ≡ true → pointsOnce fat ≡ true → noneDangles (length fat) fat ≡ true → Passed strict n raw difats fats
+  points-passed t o d =
+      let f : fat ≡ forgivenFat n M = fat-forgiven t in
+      record {
+        unmarked = fat-marked t;
+        right = of-once strict n M small long-marked (rw f at (points-exactly fat .0 o)) (λ s. sym f ∙ fat-stays t s);
+        sound = ap (noneDangles n) (sym f) ∙ ap (λ (k : ℕ). noneDangles k fat) (sym long) ∙ d;
+      }
+
+  pub passed-points : fat ≡ forgivenFat n M → Passed strict n raw difats fats → (pointsOnce fat ≡ true) × (noneDangles (length fat) fat ≡ true)
+  passed-points f p = (
+    points-exactly fat .1 (rw f (once-of strict n M small long-marked (p .right))),
+    ap (λ (k : ℕ). noneDangles k fat) long ∙ ap (noneDangles n) f ∙ p .sound,
+  )

@@ -4,3 +4,4 @@ pub mod Pointing
 pub mod Telling
 pub mod Listing
 pub mod Judging
+pub mod Accepting

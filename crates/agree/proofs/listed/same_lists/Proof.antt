@@ -34,7 +34,7 @@ same-fats-requires : tie.Need-same-fats-requires
 same-fats-requires c κs =
     let i = c .before .before .before .before .before .before in
     let g = c .before .before .before .before .before .before .before .before .before .before .before .before .before .before in
-    lists-places _ _ _ _ _ _ _ _ (g .pre) _ (i .same-difats .ensures) _ _ (entries-there (c .before)) (i .same-difats .kept .1 .1 .1 .1 .1 .0) (not-false _ (c .before .before .before .if2 .left))
+    lists-places (g .args .s) (g .args .image .now) (g .args .h) (g .args .n) (g .args .fats .now) (g .args .difats .now) _ _ (g .pre) _ (i .same-difats .ensures) _ _ (entries-there (c .before)) (i .same-difats .kept .1 .1 .1 .1 .1 .0) (not-false _ (c .before .before .before .if2 .left))
 
 same-length-2 : tie.Need-same-length-2
 same-length-2 c = search needs

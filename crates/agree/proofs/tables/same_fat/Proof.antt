@@ -1,57 +1,61 @@
+-- The image's FAT is loaded into the room, looked at for its marks, marked, and compared: together the definition's test.
+use mathlib.Core.Path.{_≡_, _∙_, ap}
+use borrow.Author.Tests.{not-true, not-false}
+use lib.ListN.{length}
+use Rattle.fat.specs.Lists.{fatOf}
+use Rattle.fat.proofs.Differing.{below-kept}
+use Rattle.agree.proofs.Judging.{covers-room, fat-unmarked, fat-differs, fat-told}
 use borrow.Author.Needs.{needs}
 use Rattle.agree.proofs.tables.same_fat.Statement.{statement}
 use Rattle.agree.proofs.tables.same_fat.Tie as tie
-use Rattle.agree.proofs.tables.same_fat.Reads as reads
-use Rattle.agree.proofs.tables.same_fat.Lts as lts
-use Rattle.agree.proofs.tables.is_forgiven.Reads as is-forgiven-reads
-use Rattle.agree.proofs.tables.stays.Reads as stays-reads
-use Rattle.fat.proofs.load.load_fat.Reads as load-fat-reads
-use Rattle.judge.proofs.judged.unmarked.Reads as unmarked-reads
-use Rattle.judge.proofs.marks.set_listed.Reads as set-listed-reads
 
--- src/tables.rt:69:5
+-- the room holds the image's entries, as many as the FAT
+abbrev entry : tie.After-load-fat → tie.Start
+entry l = l .before .before .before .before .before .before .before
+
+long : (l : tie.After-load-fat) → length (l .load-fat .last .1 .1 .1 .1 .0) ≡ length (entry l .args .fat .now)
+long l = l .load-fat .kept .1 .1 .1 .1 .0 ∙ entry l .pre .same
+
+raw-is : (l : tie.After-load-fat) → l .load-fat .last .1 .1 .1 .1 .0 ≡ fatOf (entry l .args .s) (entry l .args .image .now) (entry l .args .fats .now) (length (entry l .args .fat .now))
+raw-is l = l .load-fat .ensures ∙ ap (fatOf (entry l .args .s) (entry l .args .image .now) (entry l .args .fats .now)) (entry l .pre .same)
+
 load-fat-requires : tie.Need-load-fat-requires
-load-fat-requires c κs = search needs
+load-fat-requires c κs = covers-room _ _ _ _ _ _ (c .before .before .before .before .before .before .pre)
 
--- src/tables.rt:70:8
 unmarked-requires : tie.Need-unmarked-requires
-unmarked-requires c κs = ?
+unmarked-requires c κs =
+    let l = c .before .before .before in
+    (below-kept _ _ _ (long l) (entry l .pre .below), below-kept _ _ _ (long l) (entry l .pre .covers .below))
 
--- src/tables.rt:71:9
 same-length : tie.Need-same-length
 same-length c = search needs
 
--- src/tables.rt:71:9
 returns : tie.Need-returns
-returns c = ?
+returns c = fat-unmarked _ _ _ _ _ _ (raw-is (c .before .before .before .before .before)) _ (c .before .unmarked .ensures) (c .if1 .taken)
 
--- src/tables.rt:73:5
 set-listed-requires : tie.Need-set-listed-requires
-set-listed-requires c κs = ?
+set-listed-requires c κs =
+    let l = c .before .before .before .before .before .before in
+    (below-kept _ _ _ (long l) (entry l .pre .below), below-kept _ _ _ (long l) (entry l .pre .covers .below))
 
--- src/tables.rt:74:9
 stays-requires : tie.Need-stays-requires
 stays-requires c κs = search needs
 
--- src/tables.rt:75:9
 same-length-2 : tie.Need-same-length-2
 same-length-2 c = search needs
 
--- src/tables.rt:75:9
 returns-2 : tie.Need-returns-2
-returns-2 c = ?
+returns-2 c = fat-differs _ _ _ _ _ _ (raw-is (c .before .before .before .before .before .before .before .before .before .before .before .before)) _ (c .before .before .before .before .before .set-listed .ensures) _ (c .before .stays .ensures) (not-true _ (c .if2 .taken))
 
--- src/tables.rt:77:5
 is-forgiven-requires : tie.Need-is-forgiven-requires
-is-forgiven-requires c κs = search needs
+is-forgiven-requires c κs = c .before .before .before .before .before .before .set-listed .kept .0 ∙ long (c .before .before .before .before .before .before .before .before .before .before .before .before .before)
 
--- src/tables.rt:57:1
 same-length-3 : tie.Need-same-length-3
 same-length-3 c = search needs
 
--- src/tables.rt:57:1
 returns-3 : tie.Need-returns-3
-returns-3 c = ?
+returns-3 c =
+    fat-told _ _ _ _ _ _ (raw-is (c .before .before .before .before .before .before .before .before .before .before .before .before .before .before)) _ (c .before .before .before .before .before .before .before .set-listed .ensures) _ _ _ (c .before .before .before .before .before .before .before .before .before .before .unmarked .ensures) (c .before .before .before .before .before .before .before .before .before .if1 .left) (c .before .before .before .stays .ensures) (not-false _ (c .before .before .if2 .left)) (c .is-forgiven .ensures)
 
 pub same-fat-spec : {M : Type 1} → statement M
 same-fat-spec =
