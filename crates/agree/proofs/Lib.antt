@@ -5,3 +5,4 @@ pub mod Telling
 pub mod Listing
 pub mod Judging
 pub mod Accepting
+pub mod Lent
