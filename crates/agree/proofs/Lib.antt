@@ -6,3 +6,4 @@ pub mod Listing
 pub mod Judging
 pub mod Accepting
 pub mod Lent
+pub mod Agreeing
