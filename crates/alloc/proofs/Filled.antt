@@ -39,11 +39,11 @@ unfolding padded
 put-front xs ys front n e f l = rw (f, zero-rest xs n e, l)
 
 -- the lengths of what is loaded
-length-openFat : (S : ℕ) (img : List ℕ) (h : Header) (n : ℕ) → length (openFat S img h n) ≡ n
+pub length-openFat : (S : ℕ) (img : List ℕ) (h : Header) (n : ℕ) → length (openFat S img h n) ≡ n
 unfolding openFat forgivenFat
 length-openFat S img h n = length-tab _ n
 
-length-marks : (n : ℕ) (fat : List ℕ) → length (marksOf n fat) ≡ n
+pub length-marks : (n : ℕ) (fat : List ℕ) → length (marksOf n fat) ≡ n
 unfolding marksOf
 length-marks n fat = length-tab _ n
 

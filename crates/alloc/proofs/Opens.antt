@@ -78,11 +78,11 @@ module _ (m : Validation) (img : List ℕ) (used : ℕ) (t : Tables) where
   unfolding tableRows fatRows between
   tables-beyond strict S h n z = given-between 12 18 (tableRows strict S img h n) refl z .0
 
-  open-first : (refusal (firstRows m img used (shortest t)) ≡ 0 → ⊥) → openNo m img used (shortest t) ≡ refusal (firstRows m img used (shortest t))
+  pub open-first : (refusal (firstRows m img used (shortest t)) ≡ 0 → ⊥) → openNo m img used (shortest t) ≡ refusal (firstRows m img used (shortest t))
   unfolding openNo openRows
   open-first n = append-given (firstRows m img used (shortest t)) _ n
 
-  open-then : refusal (firstRows m img used (shortest t)) ≡ 0
+  pub open-then : refusal (firstRows m img used (shortest t)) ≡ 0
       → openNo m img used (shortest t) ≡ refusal (tableRows (isStrict m) (lengthOf (headerOf img .version)) img (headerOf img) (sectorsIn (lengthOf (headerOf img .version)) used))
   unfolding openNo openRows firstRows headerRows distinct fresh
   open-then z = append-none (firstRows m img used (shortest t)) _ refl z

@@ -46,7 +46,7 @@ fn stopped(no: u32, header: Header) -> Early
 }
 
 // Judges an image of which so many bytes are used, by the shortest of the lent tables.
-pub(crate) fn judge_early(image: &[u8], used: usize, validation: Validation, short: usize) -> Early
+pub fn judge_early(image: &[u8], used: usize, validation: Validation, short: usize) -> Early
     ensures { λ r. ⌜ EarlySays (now (image .entry)) used validation short r ⌝ }
 {
     let read = Header::read_from(image, validation);

@@ -138,7 +138,7 @@ fn nothing(no: u32) -> Found
 }
 
 // The lesser of two lengths.
-fn lesser_of(a: usize, b: usize) -> usize
+pub fn lesser_of(a: usize, b: usize) -> usize
     ensures { λ r. ⌜ r ≡ min a b ⌝ }
 {
     if a < b {

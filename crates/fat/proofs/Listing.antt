@@ -115,7 +115,7 @@ module _ (S n len k d : ℕ) (c : Counted S n len k d) where
 
 -- all of it, from the three looks at lists of the counts that n sectors ask for
 module _ (S : ℕ) (img : List ℕ) (h : Header) (n k d : ℕ) (ek : k ≡ fatCount S n) (ed : d ≡ difatCount S k) where
-  by-counts : listsRight S img h n ≡ both (countsRight h k d) (both (chainRight S img (h .difat) n d) (fatsRight S img n (h .list) (difatsOf S img (h .difat) d) k))
+  pub by-counts : listsRight S img h n ≡ both (countsRight h k d) (both (chainRight S img (h .difat) n d) (fatsRight S img n (h .list) (difatsOf S img (h .difat) d) k))
   unfolding listsRight difatsIn
   by-counts = rw (ed, ek)
 

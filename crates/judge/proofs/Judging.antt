@@ -359,11 +359,11 @@ frees-end : (fat : List ℕ) (n : ℕ) → freesOf (n + 1) fat ≡ freesOf n fat
 unfolding freesOf
 frees-end fat n = rw add-one (frees-snoc fat 0 n ∙ ap (λ (k : ℕ). freesFrom fat 0 n ++ tail-of fat k) (zero-add n))
 
-frees-end-yes : (fat : List ℕ) (n : ℕ) → getD fat n 0 ≡ freeSector → freesOf (n + 1) fat ≡ freesOf n fat ++ (n ∷ [])
+pub frees-end-yes : (fat : List ℕ) (n : ℕ) → getD fat n 0 ≡ freeSector → freesOf (n + 1) fat ≡ freesOf n fat ++ (n ∷ [])
 unfolding tail-of
 frees-end-yes fat n e = frees-end fat n ∙ rw (eq-eqb (getD fat n 0) freeSector e)
 
-frees-end-no : (fat : List ℕ) (n : ℕ) → (getD fat n 0 ≡ freeSector → ⊥) → freesOf (n + 1) fat ≡ freesOf n fat
+pub frees-end-no : (fat : List ℕ) (n : ℕ) → (getD fat n 0 ≡ freeSector → ⊥) → freesOf (n + 1) fat ≡ freesOf n fat
 unfolding tail-of
 frees-end-no fat n d = frees-end fat n ∙ rw (ne-eqb (getD fat n 0) freeSector d) (append-nil (freesOf n fat))
 

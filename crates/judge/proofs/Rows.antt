@@ -63,12 +63,12 @@ module _ (strict : Bool) (fat difats fats : List ℕ) where
       }
 
   module _ (none : both strict (not (both (allMarked fat difats difatSector) (allMarked fat fats fatSector))) ≡ false) where
-    rest : refusal (fatRows strict (length fat) fat difats fats)
+    pub fat-rest : refusal (fatRows strict (length fat) fat difats fats)
         ≡ choose (eqb (firstWrong strict (length fat) (markedFat fat difats fats) 0 (length fat)) 0)
         (refusal (row 18 (not (noneDangles (length fat) (forgivenFat (length fat) (markedFat fat difats fats)))) ∷ []))
         (firstWrong strict (length fat) (markedFat fat difats fats) 0 (length fat))
     unfolding fatRows
-    rest =
+    fat-rest =
         pass 14 _ _ none
         ∙ wrong-rows (firstWrong strict (length fat) (markedFat fat difats fats) 0 (length fat)) (first-number strict (length fat) (markedFat fat difats fats) 0 (length fat)) _
 
@@ -86,7 +86,7 @@ module _ (strict : Bool) (fat difats fats : List ℕ) where
     fat-wrong w fat' marks j n =
         let e : w ≡ firstWrong strict (length fat) (markedFat fat difats fats) 0 (length fat) = judged-number w fat' marks j in
         record {
-          number = e ∙ sym (rest ∙ rw (ne-eqb _ 0 (λ z. n (e ∙ z))));
+          number = e ∙ sym (fat-rest ∙ rw (ne-eqb _ 0 (λ z. n (e ∙ z))));
           table = λ z. absurd (n z);
           marked = λ z. absurd (n z);
         }
@@ -94,7 +94,7 @@ module _ (strict : Bool) (fat difats fats : List ℕ) where
     -- the judging refuses nothing, and the pointees decide
     module _ (w : ℕ) (fat' marks : List ℕ) (j : Judged strict (markedFat fat difats fats) w fat' marks) (zero-is : w ≡ 0) where
       last : refusal (fatRows strict (length fat) fat difats fats) ≡ refusal (row 18 (not (noneDangles (length fat) (forgivenFat (length fat) (markedFat fat difats fats)))) ∷ [])
-      last = rest ∙ rw (eq-eqb _ 0 (sym (judged-number w fat' marks j) ∙ zero-is))
+      last = fat-rest ∙ rw (eq-eqb _ 0 (sym (judged-number w fat' marks j) ∙ zero-is))
 
       same-length : length fat' ≡ length fat
       unfolding forgivenFat
