@@ -1,9 +1,11 @@
 // What is judged before any table is touched (document 01, refusals 1 to 11).
 use header::Header;
 use header::Validation;
+use header::Version;
 ghost use mathlib.Core.Path.{_≡_};
 ghost use Prim.Native.Nat.{_≤_};
 ghost use lib.ListN.{length};
+ghost use Rattle.header.specs.Fields.{lengthOf};
 ghost use Rattle.fat.specs.Lists.{roomOf};
 ghost use Rattle.alloc.specs.Early.{EarlySays};
 
@@ -31,6 +33,13 @@ pub(crate) fn room(s: usize, lent: usize) -> usize
         return whole - 1;
     }
     MOST
+}
+
+// The room R of a lent image of so many bytes, by its version.
+pub fn room_of(version: Version, lent: usize) -> usize
+    ensures { λ r. ⌜ r ≡ roomOf (lengthOf version) lent ⌝ }
+{
+    room(version.sector_len(), lent)
 }
 
 // A refusal before anything was found out.

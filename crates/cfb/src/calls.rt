@@ -1,9 +1,15 @@
-// part
+// What every call on a chain begins with: lengths, agreement, and the walk (document 01, refusals 11 and 19 to 22).
+use crate::State;
+use agree::whole::agrees;
+use agree::whole::shortest;
+use alloc::early::room_of;
+use alloc::open::lesser_of;
 use chain::Walked;
+use chain::walk;
 ghost use mathlib.Core.Path.{_≡_};
 ghost use lib.ListN.{length, take};
 ghost use Rattle.alloc.specs.Opened.{padded};
-ghost use Rattle.cfb.specs.Listed.{cleared};
+ghost use Rattle.cfb.specs.Listed.{cleared, ChainListed};
 
 // Zeros a list from a place on.
 fn zero_from(xs: &mut [u32], from: usize)
@@ -24,3 +30,46 @@ fn clear_past(walked: Walked, ids: &mut [u32])
     }
 }
 
+// Lists the chain from start: 11 leaves the id list as it was, any other refusal leaves it zero; else it holds the ids and then zeros.
+pub(crate) fn chain_of(
+    s: State,
+    image: &[u8],
+    fat: &[u32],
+    fats: &[u32],
+    difats: &[u32],
+    frees: &[u32],
+    marks: &[u8],
+    ids: &mut [u32],
+    start: u32,
+) -> Walked
+    ensures { λ r. ⌜ ChainListed s (now (image .entry)) (record { fat = now (fat .entry); fats = now (fats .entry); difats = now (difats .entry); frees = now (frees .entry); marks = now (marks .entry) }) (now (ids .entry)) start r (now (ids .exit)) ⌝ }
+{
+    let h = s.header;
+    let version = h.version;
+    let short = lesser_of(shortest(fat, fats, difats, frees, marks), ids.len());
+    if short < room_of(version, image.len()) {
+        return Walked::Refused(11);
+    }
+    let n = s.sectors;
+    let mode = s.mode;
+    if !agrees(
+        image,
+        s.used,
+        mode,
+        n,
+        s.free,
+        h,
+        fat,
+        fats,
+        difats,
+        frees,
+        marks,
+        ids,
+    ) {
+        words::fill32(ids, 0);
+        return Walked::Refused(19);
+    }
+    let walked = walk(&fat[..n], start, ids);
+    clear_past(walked, ids);
+    walked
+}
