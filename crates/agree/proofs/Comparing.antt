@@ -108,7 +108,7 @@ zeros-are xs m e =
     (λ t. zero-of xs (λ i h. let l : i < m = omega arith in ap (λ (l : List ℕ). getD l i 0) (sameList-true xs (replicate m 0) t) ∙ getD-replicate m i 0 0 l))
 
 -- a table holds a list and then zeros exactly when its front is the list and its rest is zero
-padded-rest : (t xs : List ℕ) (k : ℕ) → length xs ≡ k → t ≡ padded xs (length t) → drop k t ≡ replicate (length t - k) 0
+pub padded-rest : (t xs : List ℕ) (k : ℕ) → length xs ≡ k → t ≡ padded xs (length t) → drop k t ≡ replicate (length t - k) 0
 unfolding padded
 padded-rest t xs k e l = ap (drop k) l ∙ drop-at xs (replicate (length t - length xs) 0) k e ∙ ap (λ (z : ℕ). replicate (length t - z) 0) e
 

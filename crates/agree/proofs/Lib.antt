@@ -7,3 +7,5 @@ pub mod Judging
 pub mod Accepting
 pub mod Lent
 pub mod Agreeing
+pub mod Meaning
+pub mod Examples

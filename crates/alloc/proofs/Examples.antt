@@ -16,14 +16,14 @@ use Rattle.header.specs.declared.Header.{Header}
 use Rattle.alloc.specs.Opening.{openNo}
 
 -- version 3, one FAT sector at 0
-headerQ : Header
+unfoldable pub headerQ : Header
 headerQ = record { version = V3; dirs = 0; fats = 1; dir = 1; minifat = endOfChain; minifats = 0; difat = endOfChain; difats = 0; list = 0 ∷ replicate 108 freeSector }
 
 -- Q with other entries
-imageOf : List ℕ → List ℕ
+unfoldable pub imageOf : List ℕ → List ℕ
 imageOf entries = headerBytes headerQ ++ (listBytes entries ++ (listBytes (replicate (128 - length entries) freeSector) ++ replicate 3072 7))
 
-imageQ : List ℕ
+unfoldable pub imageQ : List ℕ
 unfolding imageOf
 imageQ = imageOf (fatSector ∷ 2 ∷ 3 ∷ endOfChain ∷ freeSector ∷ freeSector ∷ [])
 
