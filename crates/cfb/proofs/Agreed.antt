@@ -1,9 +1,10 @@
 -- What is known of a FAT that agrees with its image: it points at no sector twice, and its sectors are there. Assumes nothing.
-use Prim.Native.Nat.{ℕ, _≤_, min}
+use Prim.Native.Nat.{ℕ, _+_, _/_, _≤_, min}
 use mathlib.Core.Path.{_≡_, refl, sym, _∙_, ap}
 use mathlib.Core.Bool.{Bool, false}
 use mathlib.Core.List.{List}
 use native.Mathlib.Omega.{arith}
+use native.Mathlib.Nat.{le-div-iff-mul-le}
 use borrow.Author.Tests.{eqb-false}
 use lib.Dec.{eqb}
 use lib.ListN.{length, take}
@@ -16,7 +17,7 @@ use Rattle.header.specs.Read.{headerRows, headerOf}
 use Rattle.header.specs.declared.Header.{Header}
 use Rattle.header.specs.declared.Validation.{Validation}
 use Rattle.sectors.specs.Sectors.{Holds}
-use Rattle.fat.specs.Lists.{most, sectorsIn}
+use Rattle.fat.specs.Lists.{most, sectorsIn, roomOf}
 use Rattle.judge.specs.Judge.{firstWrong, forgivenFat, fatRows}
 use Rattle.judge.proofs.Rows.{Number, is-0, is-15, is-16, is-17, first-number}
 use Rattle.alloc.specs.Opening.{Tables, firstRows, tableRows, openRows, openNo, judgedFat, openFat, openTables, shortest}
@@ -69,11 +70,22 @@ pub record Chained (S : ℕ) (img fat : List ℕ) (sectors : ℕ) : Type 0 where
   pub count : length (take sectors fat) ≡ sectors
   pub few : length (take sectors fat) ≤ maxRegular
   pub once : Once (take sectors fat)
+  pub room : sectors ≤ roomOf S (length img)
   pub holds : Holds S (length (take sectors fat)) (length img)
+
+-- sectors that an image holds are no more than its room
+holds-room : (S n len : ℕ) → Holds S n len → n ≤ most → n ≤ roomOf S len
+unfolding roomOf sectorsIn
+holds-room S n len h few =
+    let one : n + 1 ≤ len / S = le-div-iff-mul-le {k = S} {x = n + 1} {y = len} (omega (arith, h .entries, h .two)) .1 (h .fits) in
+    omega arith
 
 -- what is said of sectors is said of equal ones
 holds-own : (S S' n n' len : ℕ) → S ≡ S' → n ≡ n' → Holds S n len → Holds S' n' len
 holds-own S S' n n' len p q h = rw (p, q) at h
+
+room-own : (S S' n n' len : ℕ) → S ≡ S' → n ≡ n' → n ≤ roomOf S len → n' ≤ roomOf S' len
+room-own S S' n n' len p q h = rw (p, q) at h
 
 once-own : (xs ys : List ℕ) → xs ≡ ys → Once ys → Once xs
 once-own xs ys e o = rw e o
@@ -92,5 +104,6 @@ agreed-chained m img used sectors free h t a =
       count = count;
       few = omega (arith, known .1, a .count, count);
       once = once-own _ _ front (once-open m img used (shortest t) z);
+      room = room-own _ _ _ _ _ (ap (λ (x : Header). lengthOf (x .version)) (sym (a .header))) (sym (a .count)) (holds-room _ _ _ (known .0) (known .1));
       holds = holds-own _ _ _ _ _ (ap (λ (x : Header). lengthOf (x .version)) (sym (a .header))) (sym (a .count) ∙ sym count) (known .0);
     }

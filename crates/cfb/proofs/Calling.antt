@@ -1,10 +1,10 @@
 -- The listing of a chain: each of its ends is that of document 01's rows. Assumes nothing.
-use Prim.Native.Nat.{ℕ, _-_, _≤_, min}
+use Prim.Native.Nat.{ℕ, _-_, _≤_, _<_, min}
 use mathlib.Core.Path.{_≡_, refl, sym, _∙_, ap}
 use mathlib.Core.Bool.{true, false, not}
 use mathlib.Core.List.{List, [], _∷_, _++_}
 use native.Mathlib.Omega.{arith}
-use borrow.Author.Tests.{eq-eqb, ne-eqb}
+use borrow.Author.Tests.{eq-eqb, ne-eqb, lt-ltb, le-ltb, ltb-false}
 use lib.Dec.{eqb, ltb}
 use lib.ListN.{length, take, drop, replicate}
 use lib.Seq.{take-at}
@@ -61,6 +61,17 @@ walk-rows w k = at (outcomeNo w) k
     at _ is-20 = refl
     at _ is-21 = refl
     at _ is-22 = refl
+
+-- the row of the lengths, by what was found out
+pub room-short : {a b a' b' : ℕ} → a ≡ a' → b ≡ b' → a < b → ltb a' b' ≡ true
+room-short {a} {b} {a'} {b'} p q h = lt-ltb a' b' (omega arith)
+
+pub room-long : {a b a' b' : ℕ} → a ≡ a' → b ≡ b' → b ≤ a → ltb a' b' ≡ false
+room-long {a} {b} {a'} {b'} p q h = le-ltb a' b' (omega arith)
+
+-- a list that has the room has a place for each sector
+pub room-enough : (short : ℕ) {a n r ids now : ℕ} → a ≡ n → n ≤ r → ltb (min short ids) r ≡ false → now ≡ ids → a ≤ now
+room-enough short {a} {n} {r} {ids} p h l k = let low : r ≤ min short ids = ltb-false (min short ids) r l in omega arith
 
 -- the id list after each end
 left-listed : (ids xs : List ℕ) → padded xs (length ids) ≡ idsLeft 0 ids xs
