@@ -214,9 +214,13 @@ module _ (m : Validation) (img : List ℕ) (used : ℕ) (t : Tables) (open-is : 
   as-short : shortest left ≡ shortest t
   unfolding shortest
   as-short =
-      rw (length-padded (openFat size img (headerOf img) count) (length (t .fat)) fat-fits, length-padded (fatsIn size img (headerOf img) count) (length (t .fats)) fats-fit,
-      length-padded (difatsIn size img (headerOf img) count) (length (t .difats)) difats-fit, length-padded (freesOf count (openFat size img (headerOf img) count)) (length (t .frees)) frees-fit,
-      length-padded (marksOf count (openFat size img (headerOf img) count)) (length (t .marks)) marks-fit)
+      rw (
+        length-padded (openFat size img (headerOf img) count) (length (t .fat)) fat-fits,
+        length-padded (fatsIn size img (headerOf img) count) (length (t .fats)) fats-fit,
+        length-padded (difatsIn size img (headerOf img) count) (length (t .difats)) difats-fit,
+        length-padded (freesOf count (openFat size img (headerOf img) count)) (length (t .frees)) frees-fit,
+        length-padded (marksOf count (openFat size img (headerOf img) count)) (length (t .marks)) marks-fit,
+      )
 
   held : Held count o (length (freesOf count (openFat size img (headerOf img) count))) left
   unfolding openTables

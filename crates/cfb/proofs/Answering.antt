@@ -39,6 +39,15 @@ told-done : (k ids start bytes : ℕ) → k ≡ 0 → 0 ∷ ids ∷ start ∷ by
 unfolding told
 told-done k ids start bytes z = rw (eq-eqb k 0 z)
 
+-- the answer of a call, by each answer of its walk
+pub answer-listed : (w : Walked) (c start : ℕ) → w ≡ Listed c → Done c start 0 ≡ answerFrom w start 0
+unfolding answerFrom
+answer-listed w c start e = rw e
+
+pub answer-refused : (w : Walked) (k start : ℕ) → w ≡ Refused k → answers.Refused k ≡ answerFrom w start 0
+unfolding answerFrom
+answer-refused w k start e = rw e
+
 -- what a walk's answer tells of the number
 walked-refused : (k count j : ℕ) → Refused j ≡ walkedAs k count → (k ≢ 0) × (j ≡ k)
 unfolding walkedAs
@@ -80,15 +89,15 @@ module _ (s : State) (img : List ℕ) (t : Tables) (ids : List ℕ) (start : ℕ
 
   module _ (offset : ℕ) (buf : List ℕ) where
     -- a chain that is refused is not read
-    pub reads-refused : (j : ℕ) → w ≡ Refused j → ChainReads s img t ids start offset buf (record { answer = answers.Refused j; state = s }) img t ids' buf
-    unfolding readNo readRows chainNo
-    reads-refused j e =
+    pub reads-refused : (j : ℕ) (a : Answer) → w ≡ Refused j → a ≡ answerFrom w start 0 → ChainReads s img t ids start offset buf (record { answer = a; state = s }) img t ids' buf
+    unfolding readNo readRows chainNo answerFrom
+    reads-refused j a e f =
         let told-by = walked-refused _ _ j (sym e ∙ l .answer) in
         let same : readNo s img t (length ids) start offset ≡ chainNo s img t (length ids) start = append-given (chainRows s img t (length ids) start) _ (told-by .0) in
         let mine : readNo s img t (length ids) start offset ≡ j = same ∙ sym (told-by .1) in
         let some : readNo s img t (length ids) start offset ≢ 0 = λ z. told-by .0 (sym same ∙ z) in
         record {
-          answer = ap (λ (k : ℕ). k ∷ []) (sym mine) ∙ told-refused _ _ _ _ some;
+          answer = ap toldBy (f ∙ ap (λ (x : Walked). answerFrom x start 0) e) ∙ ap (λ (k : ℕ). k ∷ []) (sym mine) ∙ told-refused _ _ _ _ some;
           state = refl;
           image = refl;
           tables = refl;
@@ -98,7 +107,7 @@ module _ (s : State) (img : List ℕ) (t : Tables) (ids : List ℕ) (start : ℕ
 
     module _ (c : ℕ) (e : w ≡ Listed c) where
       -- a chain that is listed: the number, how many ids, and the ids themselves
-      chain-done : (chainNo s img t (length ids) start ≡ 0) × (c ≡ length (chainIds s t start))
+      pub chain-done : (chainNo s img t (length ids) start ≡ 0) × (c ≡ length (chainIds s t start))
       chain-done = walked-listed _ _ c (sym e ∙ l .answer)
 
       pub listed-front : take c ids' ≡ chainIds s t start

@@ -1,12 +1,12 @@
 -- A chain that is listed lies in its image, so its bytes can be read. Assumes nothing.
-use Prim.Native.Nat.{ℕ, _*_, _≤_}
+use Prim.Native.Nat.{ℕ, _*_, _≤_, _<_}
 use mathlib.Core.Path.{_≡_, refl, sym, _∙_, ap}
 use mathlib.Core.Bool.{Bool, true, false, not}
 use mathlib.Core.List.{List, [], _∷_}
 use native.Mathlib.Omega.{arith}
 use borrow.Author.Tests.{not-false, eqb-false}
 use lib.Dec.{eqb}
-use lib.ListN.{length, take}
+use lib.ListN.{length, take, length-take}
 use Rattle.lists.specs.Rows.{refusal, distinct, fresh}
 use Rattle.lists.proofs.Rows.{given-none}
 use Rattle.consts.specs.Consts.{maxRegular}
@@ -16,13 +16,18 @@ use Rattle.agree.specs.Agree.{agreement}
 use Rattle.agree.specs.Agrees.{Agrees}
 use Rattle.chain.specs.Steps.{Once, Sectors}
 use Rattle.chain.specs.Walk.{Outcome, lists, refuses, walkOf}
-use Rattle.chain.specs.Bytes.{Lies, Readable}
+use Rattle.chain.specs.Bytes.{Lies, Readable, ReadLeft}
 use Rattle.chain.proofs.Exactly.{never-spent}
 use Rattle.chain.proofs.Chains.{walk-sectors}
 use Rattle.chain.proofs.Bytes.{sectors-lie}
 use Rattle.cfb.specs.Calls.{outcomeNo, outcomeIds, stateLen, walked, agreedRows, walkRows, chainRows, chainNo, chainIds}
+use Rattle.agree.proofs.Meaning.{agrees-exactly}
+use Rattle.chain.specs.declared.Walked.{Walked}
+use Rattle.chain.specs.declared.Walked.the-variants.{Listed}
+use Rattle.cfb.specs.Listed.{ChainListed}
 use Rattle.cfb.specs.declared.State.{State}
 use Rattle.cfb.proofs.Agreed.{Chained, agreed-chained}
+use Rattle.cfb.proofs.Answering.{listed-front, chain-done}
 use Rattle.cfb.proofs.Calling.{Number, is-0, is-20, is-21, is-22, walk-number}
 
 -- an outcome of number 0 that is not a spent walk lists its ids
@@ -62,3 +67,38 @@ module _ (s : State) (img : List ℕ) (t : Tables) (room start : ℕ) (z : chain
 
   pub chain-lies : Lies (stateLen s) (length img) (chainIds s t start)
   chain-lies = sectors-lie (stateLen s) (length img) (take (s .sectors) (t .fat)) (chainIds s t start) (known .holds) (walk-sectors _ start _ (known .few) lists-chain)
+
+-- what is said of a chain by the length of its sectors is said by an equal one
+pub read-own : {S S' : ℕ} {img ids buf buf' : List ℕ} {offset bytes : ℕ} → S ≡ S' → ReadLeft S img ids offset buf bytes buf' → ReadLeft S' img ids offset buf bytes buf'
+read-own e r = rw e at r
+
+pub past-own : {S S' c offset : ℕ} → S ≡ S' → S * c < offset → S' * c < offset
+past-own e h = rw e at h
+
+pub within-own : {S S' c offset : ℕ} → S ≡ S' → offset ≤ S * c → offset ≤ S' * c
+within-own e h = rw e at h
+
+module _ (s : State) (img : List ℕ) (t : Tables) (ids : List ℕ) (start : ℕ) (w : Walked) (ids' : List ℕ) (l : ChainListed s img t ids start w ids') (c : ℕ) (e : w ≡ Listed c) where
+  -- the ids stand at the front of the list
+  front : take c ids' ≡ chainIds s t start
+  front = listed-front s img t ids start w ids' l 0 [] c e
+
+  done : (chainNo s img t (length ids) start ≡ 0) × (c ≡ length (chainIds s t start))
+  done = chain-done s img t ids start w ids' l 0 [] c e
+
+  pub listed-count : length (take c ids') ≡ c
+  listed-count = ap length front ∙ sym (done .1)
+
+  pub listed-within : c ≤ length ids'
+  listed-within = omega (arith, listed-count, length-take c ids')
+
+  lies : Lies (stateLen s) (length img) (take c ids')
+  lies = rw front (chain-lies s img t (length ids) start (done .0) (agrees-exactly (s .mode) img (s .used) (s .sectors) (s .free) (s .header) t .0))
+
+  -- all its bytes are fewer than the image's
+  pub listed-bytes : {S : ℕ} → S ≡ stateLen s → S * c ≤ length img
+  listed-bytes q = rw (q, ← listed-count) (lies .all)
+
+  -- it can be read from an offset that is not past its end
+  pub listed-readable : {S offset : ℕ} → S ≡ stateLen s → offset ≤ S * c → Readable S (length img) (take c ids') offset
+  listed-readable {S} {offset} q h = rw q (record { lies = lies; seeks = rw listed-count (within-own q h) })

@@ -1,4 +1,5 @@
 // What every call on a chain begins with: lengths, agreement, and the walk (document 01, refusals 11 and 19 to 22).
+use crate::Answer;
 use crate::State;
 use agree::whole::agrees;
 use agree::whole::shortest;
@@ -9,7 +10,7 @@ use chain::walk;
 ghost use mathlib.Core.Path.{_≡_};
 ghost use lib.ListN.{length, take};
 ghost use Rattle.alloc.specs.Opened.{padded};
-ghost use Rattle.cfb.specs.Listed.{cleared, ChainListed};
+ghost use Rattle.cfb.specs.Listed.{cleared, answerFrom, ChainListed};
 
 // Zeros a list from a place on.
 fn zero_from(xs: &mut [u32], from: usize)
@@ -72,4 +73,18 @@ pub(crate) fn chain_of(
     let walked = walk(&fat[..n], start, ids);
     clear_past(walked, ids);
     walked
+}
+
+// The answer of a call that read nothing, by what its walk answers.
+pub(crate) fn answer_of(walked: Walked, start: u32) -> Answer
+    ensures { λ r. ⌜ r ≡ answerFrom walked start 0 ⌝ }
+{
+    match walked {
+        Walked::Listed(count) => Answer::Done {
+            ids: count,
+            start,
+            bytes: 0,
+        },
+        Walked::Refused(no) => Answer::Refused(no),
+    }
 }

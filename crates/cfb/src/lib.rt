@@ -2,10 +2,14 @@
 mod calls;
 
 use alloc::open::open_tables;
+use calls::answer_of;
+use calls::chain_of;
+use chain::Walked;
 use header::Header;
 use header::Validation;
 use header::Version;
 ghost use mathlib.Core.Path.{_≡_};
+ghost use Rattle.cfb.specs.Calls.{ChainOpens, ChainReads};
 ghost use Rattle.cfb.specs.Face.{numberOf, noState, Opens};
 
 // The answer of an opening: how many sectors the image has and how many of them are FREE, or the number of the refusal.
@@ -119,6 +123,72 @@ impl State {
                 free,
                 header,
             },
+        }
+    }
+
+    // Opens a chain: its ids are left in `ids`, and zeros after them. Refusals 11, 19, 20, 21 and 22: 11 leaves `ids` as they were, the others zero.
+    pub fn open_chain(
+        self,
+        image: &[u8],
+        fat: &[u32],
+        fats: &[u32],
+        difats: &[u32],
+        frees: &[u32],
+        marks: &[u8],
+        ids: &mut [u32],
+        start: u32,
+    ) -> Called
+        ensures { λ r. ⌜ ChainOpens self (now (image .entry)) (record { fat = now (fat .entry); fats = now (fats .entry); difats = now (difats .entry); frees = now (frees .entry); marks = now (marks .entry) }) (now (ids .entry)) start r (now (image .exit)) (record { fat = now (fat .exit); fats = now (fats .exit); difats = now (difats .exit); frees = now (frees .exit); marks = now (marks .exit) }) (now (ids .exit)) ⌝ }
+    {
+        let walked = chain_of(self, image, fat, fats, difats, frees, marks, ids, start);
+        let answer = answer_of(walked, start);
+        Called {
+            answer,
+            state: self,
+        }
+    }
+
+    // Reads a chain from a byte on into the front of `buf`: as many bytes as it has room for or the chain still has, and the rest of `buf` stays. Refusal 23, for an offset past the chain's end, comes after those of `open_chain`; a refusal leaves `buf`.
+    pub fn read(
+        self,
+        image: &[u8],
+        fat: &[u32],
+        fats: &[u32],
+        difats: &[u32],
+        frees: &[u32],
+        marks: &[u8],
+        ids: &mut [u32],
+        start: u32,
+        offset: u64,
+        buf: &mut [u8],
+    ) -> Called
+        ensures { λ r. ⌜ ChainReads self (now (image .entry)) (record { fat = now (fat .entry); fats = now (fats .entry); difats = now (difats .entry); frees = now (frees .entry); marks = now (marks .entry) }) (now (ids .entry)) start offset (now (buf .entry)) r (now (image .exit)) (record { fat = now (fat .exit); fats = now (fats .exit); difats = now (difats .exit); frees = now (frees .exit); marks = now (marks .exit) }) (now (ids .exit)) (now (buf .exit)) ⌝ }
+    {
+        let walked = chain_of(self, image, fat, fats, difats, frees, marks, ids, start);
+        let Walked::Listed(count) = walked else {
+            let answer = answer_of(walked, start);
+            return Called {
+                answer,
+                state: self,
+            };
+        };
+        let version = self.version();
+        let s = version.sector_len();
+        if ((s * count) as u64) < offset {
+            words::fill32(ids, 0);
+            return Called {
+                answer: Answer::Refused(23),
+                state: self,
+            };
+        }
+        let bytes = chain::read(image, s, &ids[..count], offset as usize, buf);
+        Called {
+            answer: Answer::Done {
+                ids: count,
+                start,
+                bytes,
+            },
+            state: self,
         }
     }
 }

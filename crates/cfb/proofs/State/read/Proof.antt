@@ -1,0 +1,114 @@
+-- A chain that is listed lies in the image, so that its bytes are there; an offset past its end is judged before.
+use Prim.Native.Nat.{ℕ, _*_, _≤_}
+use mathlib.Core.Path.{_≡_, refl, sym, _∙_, ap}
+use mathlib.Core.List.{List}
+use native.Mathlib.Omega.{arith}
+use lib.ListN.{length, take, replicate}
+use Rattle.header.specs.Fields.{lengthOf}
+use Rattle.alloc.specs.Opening.{Tables}
+use Rattle.chain.specs.declared.Walked.the-variants.{Listed}
+use Rattle.cfb.specs.Calls.{stateLen}
+use Rattle.cfb.specs.declared.State.{State}
+use Rattle.cfb.proofs.Answering.{reads-refused, reads-past, reads-done}
+use Rattle.cfb.proofs.Lying.{read-own, past-own, within-own, listed-count, listed-within, listed-bytes, listed-readable}
+use borrow.Author.Needs.{needs}
+use Rattle.cfb.proofs.State.read.Statement.{statement}
+use Rattle.cfb.proofs.State.read.Tie as tie
+
+-- where the chain is listed, where its count is known, and what was lent
+abbrev begun : tie.After-chain-of → tie.Start
+begun c = c .before .before .before .before .before .before .before .before .before .before
+
+abbrev listed : tie.After-sector-len → tie.After-chain-of
+listed c = c .before .before .before .before .before .before .before
+
+abbrev state : tie.After-chain-of → State
+state c = begun c .args .self
+
+abbrev tables : tie.After-chain-of → Tables
+tables c = record { fat = begun c .args .fat .now; fats = begun c .args .fats .now; difats = begun c .args .difats .now; frees = begun c .args .frees .now; marks = begun c .args .marks .now }
+
+-- the sectors' length is the state's
+length-is : (c : tie.After-sector-len) → c .sector-len .result ≡ stateLen (state (listed c))
+length-is c = c .sector-len .ensures ∙ ap lengthOf (c .before .version .ensures)
+
+-- the count is that of the walk
+walked-is : (c : tie.After-sector-len) → listed c .chain-of .result ≡ Listed (c .before .before .before .walked .given .0 .0)
+walked-is c = c .before .before .before .walked .given .1
+
+chain-of-requires : tie.Need-chain-of-requires
+chain-of-requires c κs = search needs
+
+enum-known-walked : tie.Need-enum-known-walked
+enum-known-walked c = search needs
+
+enum-told : tie.Need-enum-told
+enum-told c = search needs
+
+answer-of-requires : tie.Need-answer-of-requires
+answer-of-requires c κs = search needs
+
+same-length : tie.Need-same-length
+same-length c = search needs
+
+returns : tie.Need-returns
+returns c = reads-refused _ _ (tables (c .before .before .before .before .before)) _ _ _ _ (c .before .before .before .before .before .chain-of .ensures) _ _ _ _ (c .before .enum-told .given .1) (c .answer-of .ensures)
+
+version-requires : tie.Need-version-requires
+version-requires c κs = search needs
+
+sector-len-requires : tie.Need-sector-len-requires
+sector-len-requires c κs = search needs
+
+mul-if1 : tie.Need-mul-if1
+mul-if1 c = ?h
+
+fill32-requires : tie.Need-fill32-requires
+fill32-requires c κs = search needs
+
+same-length-2 : tie.Need-same-length-2
+same-length-2 c = search needs
+
+returns-2 : tie.Need-returns-2
+returns-2 c = ?h
+
+slice-reshare-prefix-read : tie.Need-slice-reshare-prefix-read
+slice-reshare-prefix-read c = ?h
+
+slice-aggregate-read : tie.Need-slice-aggregate-read
+slice-aggregate-read c = ?h
+
+read-requires : tie.Need-read-requires
+read-requires c κs = ?h
+
+same-length-3 : tie.Need-same-length-3
+same-length-3 c = search needs
+
+same-length-4 : tie.Need-same-length-4
+same-length-4 c = search needs
+
+returns-3 : tie.Need-returns-3
+returns-3 c = ?h
+
+pub read-spec : {M : Type 1} → statement M
+read-spec =
+    tie.close
+    (tie.spec
+    chain-of-requires
+    enum-known-walked
+    enum-told
+    answer-of-requires
+    same-length
+    returns
+    version-requires
+    sector-len-requires
+    mul-if1
+    fill32-requires
+    same-length-2
+    returns-2
+    slice-reshare-prefix-read
+    slice-aggregate-read
+    read-requires
+    same-length-3
+    same-length-4
+    returns-3)
