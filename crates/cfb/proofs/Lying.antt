@@ -72,11 +72,11 @@ module _ (s : State) (img : List ℕ) (t : Tables) (room start : ℕ) (z : chain
 pub read-own : {S S' : ℕ} {img ids buf buf' : List ℕ} {offset bytes : ℕ} → S ≡ S' → ReadLeft S img ids offset buf bytes buf' → ReadLeft S' img ids offset buf bytes buf'
 read-own e r = rw e at r
 
-pub past-own : {S S' c offset : ℕ} → S ≡ S' → S * c < offset → S' * c < offset
-past-own e h = rw e at h
+pub past-own : (c : ℕ) {S S' offset : ℕ} → S ≡ S' → S * c < offset → S' * c < offset
+past-own c e h = rw e at h
 
-pub within-own : {S S' c offset : ℕ} → S ≡ S' → offset ≤ S * c → offset ≤ S' * c
-within-own e h = rw e at h
+pub within-own : (c : ℕ) {S S' offset : ℕ} → S ≡ S' → offset ≤ S * c → offset ≤ S' * c
+within-own c e h = rw e at h
 
 module _ (s : State) (img : List ℕ) (t : Tables) (ids : List ℕ) (start : ℕ) (w : Walked) (ids' : List ℕ) (l : ChainListed s img t ids start w ids') (c : ℕ) (e : w ≡ Listed c) where
   -- the ids stand at the front of the list
@@ -101,4 +101,4 @@ module _ (s : State) (img : List ℕ) (t : Tables) (ids : List ℕ) (start : ℕ
 
   -- it can be read from an offset that is not past its end
   pub listed-readable : {S offset : ℕ} → S ≡ stateLen s → offset ≤ S * c → Readable S (length img) (take c ids') offset
-  listed-readable {S} {offset} q h = rw q (record { lies = lies; seeks = rw listed-count (within-own q h) })
+  listed-readable {S} {offset} q h = rw q (record { lies = lies; seeks = rw listed-count (within-own c q h) })

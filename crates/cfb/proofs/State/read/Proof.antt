@@ -61,7 +61,7 @@ sector-len-requires : tie.Need-sector-len-requires
 sector-len-requires c κs = search needs
 
 mul-if1 : tie.Need-mul-if1
-mul-if1 c = ?h
+mul-if1 c = omega (arith, listed-bytes _ _ (tables (listed c)) _ _ _ _ (listed c .chain-of .ensures) _ (walked-is c) (length-is c))
 
 fill32-requires : tie.Need-fill32-requires
 fill32-requires c κs = search needs
@@ -70,16 +70,18 @@ same-length-2 : tie.Need-same-length-2
 same-length-2 c = search needs
 
 returns-2 : tie.Need-returns-2
-returns-2 c = ?h
+returns-2 c =
+    let k = c .before .before .before .before .before in
+    reads-past _ _ (tables (listed k)) _ _ _ _ (listed k .chain-of .ensures) _ _ _ (walked-is k) _ (past-own _ (length-is k) (c .before .before .before .before .if1 .taken)) (c .before .before .fill32 .ensures ∙ ap (λ (n : ℕ). replicate n 0) (listed k .chain-of .kept .1 .1 .1 .1 .1 .1 .1 .0))
 
 slice-reshare-prefix-read : tie.Need-slice-reshare-prefix-read
-slice-reshare-prefix-read c = ?h
+slice-reshare-prefix-read c = let k = c .before in listed-within _ _ (tables (listed k)) _ _ _ _ (listed k .chain-of .ensures) _ (walked-is k)
 
 slice-aggregate-read : tie.Need-slice-aggregate-read
-slice-aggregate-read c = ?h
+slice-aggregate-read c = let k = c .before .before in sym (listed-count _ _ (tables (listed k)) _ _ _ _ (listed k .chain-of .ensures) _ (walked-is k))
 
 read-requires : tie.Need-read-requires
-read-requires c κs = ?h
+read-requires c κs = let k = c .before .before .before in listed-readable _ _ (tables (listed k)) _ _ _ _ (listed k .chain-of .ensures) _ (walked-is k) (length-is k) (c .before .before .if1 .left)
 
 same-length-3 : tie.Need-same-length-3
 same-length-3 c = search needs
@@ -88,7 +90,9 @@ same-length-4 : tie.Need-same-length-4
 same-length-4 c = search needs
 
 returns-3 : tie.Need-returns-3
-returns-3 c = ?h
+returns-3 c =
+    let k = c .before .before .before .before .before .before in
+    reads-done _ _ (tables (listed k)) _ _ _ _ (listed k .chain-of .ensures) _ _ _ (walked-is k) _ _ (within-own _ (length-is k) (c .before .before .before .before .before .if1 .left)) (read-own (length-is k) (c .before .before .read .ensures))
 
 pub read-spec : {M : Type 1} → statement M
 read-spec =
