@@ -1,15 +1,14 @@
 -- What the test of agreement means: the plain facts, and that it holds of what an opening leaves, the free list in any order. Assumes nothing.
 use Prim.Native.Nat.{ℕ, _+_, _-_, _≤_, _<_, min}
 use mathlib.Core.Path.{_≡_, refl, sym, _∙_, ap}
-use mathlib.Core.Bool.{Bool, true}
-use mathlib.Core.List.{List, _++_}
+use mathlib.Core.Bool.{true}
+use mathlib.Core.List.{List}
 use mathlib.Core.Logic.{_↔_, ⊎-elim}
 use native.Mathlib.Omega.{arith}
 use borrow.Author.Tests.{eq-eqb, eqb-true}
 use lib.Dec.{eqb}
 use lib.ListN.{length, getD, take, drop, replicate, length-append, length-drop, length-replicate, getD-replicate}
 use lib.Seq.{ext-getD, getD-drop}
-use Rattle.lists.specs.Lists.{both, sameList}
 use Rattle.lists.specs.Rows.{refusal}
 use Rattle.lists.proofs.Cases.{below-or, same-or, both-true, both-left, both-right, every-at, every-of}
 use Rattle.lists.proofs.Splice.{sameList-true}
@@ -214,9 +213,13 @@ module _ (m : Validation) (img : List ℕ) (used : ℕ) (t : Tables) (open-is : 
   as-short : shortest left ≡ shortest t
   unfolding shortest
   as-short =
-      rw (length-padded (openFat size img (headerOf img) count) (length (t .fat)) fat-fits, length-padded (fatsIn size img (headerOf img) count) (length (t .fats)) fats-fit,
-      length-padded (difatsIn size img (headerOf img) count) (length (t .difats)) difats-fit, length-padded (freesOf count (openFat size img (headerOf img) count)) (length (t .frees)) frees-fit,
-      length-padded (marksOf count (openFat size img (headerOf img) count)) (length (t .marks)) marks-fit)
+      rw (
+        length-padded (openFat size img (headerOf img) count) (length (t .fat)) fat-fits,
+        length-padded (fatsIn size img (headerOf img) count) (length (t .fats)) fats-fit,
+        length-padded (difatsIn size img (headerOf img) count) (length (t .difats)) difats-fit,
+        length-padded (freesOf count (openFat size img (headerOf img) count)) (length (t .frees)) frees-fit,
+        length-padded (marksOf count (openFat size img (headerOf img) count)) (length (t .marks)) marks-fit,
+      )
 
   held : Held count o (length (freesOf count (openFat size img (headerOf img) count))) left
   unfolding openTables

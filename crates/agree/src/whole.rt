@@ -44,7 +44,8 @@ fn tails_zero(
 ) -> bool
     ensures { λ r. ⌜ r ≡ tailsZero n k d free (record { fat = now (fat .entry); fats = now (fats .entry); difats = now (difats .entry); frees = now (frees .entry); marks = now (marks .entry) }) ⌝ }
 {
-    let lists = zeros_from(fats, k) & (zeros_from(difats, d) & (zeros_from(frees, free) & zero_bytes_from(marks, n)));
+    let lists = zeros_from(fats, k)
+        & (zeros_from(difats, d) & (zeros_from(frees, free) & zero_bytes_from(marks, n)));
     zeros_from(fat, n) & lists
 }
 
@@ -124,5 +125,18 @@ pub fn agrees(
         return false;
     }
     let strict = mode.is_strict();
-    same_whole(image, s, n, h, strict, free, fat, fats, difats, frees, marks, scratch)
+    same_whole(
+        image,
+        s,
+        n,
+        h,
+        strict,
+        free,
+        fat,
+        fats,
+        difats,
+        frees,
+        marks,
+        scratch,
+    )
 }

@@ -34,7 +34,7 @@ loop-again c = (omega arith, flag-more _ _ _ _ (c .before .before .loop .inv .1)
 
 returns : tie.Need-returns Inv-loop μ-loop
 unfolding allZero
-returns c = 
+returns c =
     let l = c .before .loop in
     let all : l .i ≡ length (c .before .before .args .xs .now) = omega arith in
     rw all at (l .inv .1)

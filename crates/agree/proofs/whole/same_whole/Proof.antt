@@ -3,7 +3,7 @@ use Prim.Native.Nat.{ℕ, _-_, _≤_}
 use mathlib.Core.Path.{_≡_, sym, _∙_, ap}
 use native.Mathlib.Omega.{arith}
 use borrow.Author.Tests.{not-true, not-false}
-use lib.ListN.{length, take}
+use lib.ListN.{length}
 use lib.Seq.{length-take-le}
 use Rattle.sectors.specs.Sectors.{perSector}
 use Rattle.fat.specs.Lists.{ceil, fatCount, difatCount}
@@ -107,9 +107,13 @@ same-length-2 c = search needs
 
 returns-3 : tie.Need-returns-3
 returns-3 c =
-    let s = c .before .before .before .before .before .before .before .before .before .before .before .before .before .before .before .before .before in
-    whole-told _ _ _ _ _ _ _ _ (tables (entry s)) (count-fats s) (count-difats s) _ (length-take-le _ _ (entry s .pre .lent .fat-long)) (frees-fit s) (sym (c .before .before .before .before .before .before .before .before .before .before .before .before .before .before .before .before .tails-zero .ensures) ∙ not-false _ (c .before .before .before .before .before .before .before .before .before .before .before .before .before .before .before .if1 .left))
-    (sym (c .before .before .before .before .before .before .before .before .before .same-tables .ensures) ∙ not-false _ (c .before .before .before .before .before .before .if2 .left)) _ (c .before .before .same-frees .ensures)
+    let p = c .before .before in
+    let e = p .before .before .before .before in
+    let f = e .before .before .before in
+    let z = f .before .before .before .before .before .before in
+    let s = z .before .before in
+    whole-told _ _ _ _ _ _ _ _ (tables (entry s)) (count-fats s) (count-difats s) _ (length-take-le _ _ (entry s .pre .lent .fat-long)) (frees-fit s) (sym (z .before .tails-zero .ensures) ∙ not-false _ (z .if1 .left))
+    (sym (f .same-tables .ensures) ∙ not-false _ (e .if2 .left)) _ (p .same-frees .ensures)
 
 pub same-whole-spec : {M : Type 1} → statement M
 same-whole-spec =
