@@ -48,14 +48,14 @@ put-places-requires : tie.Need-put-places-requires
 put-places-requires c κs =
     let low = c .before .before .before in
     let count = low .before .before in
-    let g = count .before .before .before .before .before in
+    let g = entry (count .before) in
     (below-more _ _ _ (g .pre .below) (ranged low), omega (arith, counted count, frees-few (length (g .args .fat .now)) (g .args .fat .now), g .pre .few))
 
 places-stand-requires : tie.Need-places-stand-requires
 places-stand-requires c κs =
     let put = c .before .before .before in
     let low = put .before .before .before .before in
-    let g = low .before .before .before .before .before .before .before in
+    let g = entry (low .before .before .before) in
     below-more _ _ _ (omega (arith, put .put-places .kept .1 .0, g .pre .below)) (ranged low)
 
 same-length : tie.Need-same-length
@@ -70,7 +70,8 @@ returns-4 c =
 covered-requires : tie.Need-covered-requires
 covered-requires c κs =
     let put = c .before .before .before .before .before .before in
-    let g = put .before .before .before .before .before .before .before .before .before .before .before in
+    let low = put .before .before .before .before in
+    let g = entry (low .before .before .before) in
     omega (arith, put .put-places .kept .1 .0, g .pre .below)
 
 same-length-2 : tie.Need-same-length-2

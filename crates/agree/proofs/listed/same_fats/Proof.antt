@@ -8,6 +8,10 @@ use borrow.Author.Needs.{needs}
 use Rattle.agree.proofs.listed.same_fats.Statement.{statement}
 use Rattle.agree.proofs.listed.same_fats.Tie as tie
 
+-- the lent lists
+abbrev entry : tie.After-are-places → tie.Start
+entry i = i .before .before .before .before .before .before .before
+
 slice-relend-prefix-are-places : tie.Need-slice-relend-prefix-are-places
 slice-relend-prefix-are-places c = search needs
 
@@ -24,7 +28,7 @@ returns : tie.Need-returns
 returns c = fats-wrong _ _ _ _ _ _ _ _ (c .before .before .before .are-places .ensures) (not-true _ (c .if1 .taken))
 
 rest-free-requires : tie.Need-rest-free-requires
-rest-free-requires c κs = c .before .before .before .before .before .before .before .before .before .before .pre .places
+rest-free-requires c κs = entry (c .before .before .before) .pre .places
 
 same-length-2 : tie.Need-same-length-2
 same-length-2 c = search needs
@@ -36,7 +40,7 @@ different-requires : tie.Need-different-requires
 different-requires c κs =
     let e = c .before .before .before in
     let i = e .before .before .before in
-    let g = i .before .before .before .before .before .before .before in
+    let g = entry i in
     (below-more _ _ _ (relent (i .are-places .last .1 .1 .1 .1 .1 .1 .0) (g .args .scratch .now) _ _ (i .are-places .kept .1 .1 .1 .1 .1 .1 .0) (g .pre .within) (g .pre .below)) (fats-low _ _ _ _ _ _ _ _ (i .are-places .ensures) (not-false _ (e .if1 .left))), g .pre .few)
 
 same-length-3 : tie.Need-same-length-3

@@ -60,7 +60,7 @@ same-length-3 c = search needs
 returns-3 : tie.Need-returns-3
 returns-3 c =
     let f = c .before .before .before in
-    let g = f .before .before .before .before .before .before .before .before .before .before .before .before .before .before .before in
+    let g = entry (f .before .before .before .before .before .before .before) in
     tables-fat _ _ _ _ _ _ _ _ _ (omega (arith, g .pre .counted .few)) refl (sym (f .same-fat .ensures) ∙ not-true _ (c .if3 .taken))
 
 same-points-requires : tie.Need-same-points-requires

@@ -19,6 +19,9 @@ use Rattle.agree.proofs.whole.same_whole.Tie as tie
 abbrev entry : tie.After-ceil2 → tie.Start
 entry s = s .before .before .before .before .before .before .before .before .before .before
 
+abbrev looked : tie.After-same-tables → tie.After-ceil2
+looked f = f .before .before .before .before .before .before .before .before
+
 abbrev tables : tie.Start → Tables
 tables g = record { fat = g .args .fat .now; fats = g .args .fats .now; difats = g .args .difats .now; frees = g .args .frees .now; marks = g .args .marks .now }
 
@@ -87,18 +90,18 @@ same-length c = search needs
 
 returns-2 : tie.Need-returns-2
 returns-2 c =
-    let s = c .before .before .before .before .before .before .before .before .before .before .before in
+    let s = looked (c .before .before .before) in
     whole-tables _ _ _ _ _ _ _ _ (tables (entry s)) (count-fats s) (count-difats s) _ (length-take-le _ _ (entry s .pre .lent .fat-long)) (sym (c .before .before .before .same-tables .ensures) ∙ not-true _ (c .if2 .taken))
 
 slice-aggregate-same-frees : tie.Need-slice-aggregate-same-frees
-slice-aggregate-same-frees c = sym (length-take-le _ _ (entry (c .before .before .before .before .before .before .before .before .before .before .before .before) .pre .lent .fat-long))
+slice-aggregate-same-frees c = sym (length-take-le _ _ (entry (looked (c .before .before .before .before)) .pre .lent .fat-long))
 
 slice-aggregate-same-frees-2 : tie.Need-slice-aggregate-same-frees-2
-slice-aggregate-same-frees-2 c = sym (length-take-le _ _ (frees-fit (c .before .before .before .before .before .before .before .before .before .before .before .before .before)))
+slice-aggregate-same-frees-2 c = sym (length-take-le _ _ (frees-fit (looked (c .before .before .before .before .before))))
 
 same-frees-requires : tie.Need-same-frees-requires
 same-frees-requires c κs =
-    let s = c .before .before .before .before .before .before .before .before .before .before .before .before .before .before in
+    let s = looked (c .before .before .before .before .before .before) in
     let long = length-take-le (entry s .args .n) (entry s .args .fat .now) (entry s .pre .lent .fat-long) in
     record { few = omega (arith, long, entry s .pre .lent .few); below = omega (arith, long, c .before .before .before .before .before .before .same-tables .kept .1 .1 .1 .1 .1 .1 .1 .1 .0, entry s .pre .below) }
 
@@ -111,7 +114,7 @@ returns-3 c =
     let e = p .before .before .before .before in
     let f = e .before .before .before in
     let z = f .before .before .before .before .before .before in
-    let s = z .before .before in
+    let s = looked f in
     whole-told _ _ _ _ _ _ _ _ (tables (entry s)) (count-fats s) (count-difats s) _ (length-take-le _ _ (entry s .pre .lent .fat-long)) (frees-fit s) (sym (z .before .tails-zero .ensures) ∙ not-false _ (z .if1 .left))
     (sym (f .same-tables .ensures) ∙ not-false _ (e .if2 .left)) _ (p .same-frees .ensures)
 
