@@ -16,13 +16,12 @@ use Rattle.lists.proofs.Splice.{sameList-true}
 use Rattle.lists.proofs.Tab.{length-tab}
 use Rattle.consts.specs.Consts.{maxRegular}
 use Rattle.header.specs.declared.Header.{Header}
-use Rattle.sectors.specs.Sectors.{perSector}
-use Rattle.fat.specs.Lists.{difatsIn, fatsIn, fatOf, fatCount, allBelow, restFree, chainRight, countsRight, listsRight, fatsRight, idsRight, tailFree}
+use Rattle.fat.specs.Lists.{difatsIn, fatsIn, fatOf, listsRight, tailFree}
 use Rattle.fat.specs.Loaded.{ListsLoaded, Covers}
 use Rattle.judge.specs.Judge.{markedFat, forgivenFat, marksOf, noneDangles, fatRows}
 use Rattle.alloc.specs.Opening.{rawFat, judgedFat, openFat, tableRows}
 use Rattle.alloc.proofs.Opening.{lists-difats, lists-cover}
-use Rattle.agree.specs.Parts.{FatLent, TablesLent, MarksLent, listsSame, fatSame, pointsOnce, pointsSame, tablesSame}
+use Rattle.agree.specs.Parts.{FatLent, TablesLent, listsSame, fatSame, pointsOnce, pointsSame, tablesSame}
 use Rattle.agree.proofs.Comparing.{same-of}
 use Rattle.agree.proofs.Listing.{refutes}
 use Rattle.agree.proofs.Judging.{Passed, rows-passed, passed-rows, same-fat, fat-forgiven, points-passed, passed-points}

@@ -11,8 +11,8 @@ use lib.Dec.{eqb}
 use lib.ListN.{length, getD, take, drop, replicate, length-drop, length-replicate, getD-replicate, take-append-drop, length-append}
 use lib.Seq.{ext-getD, drop-at, take-all}
 use Rattle.lists.specs.Lists.{both, every, tab, sameList}
-use Rattle.lists.proofs.Cases.{both-true, both-left, both-right, same-test, every-at, every-of, every-ext}
-use Rattle.lists.proofs.Tab.{length-tab, getD-tab, is-tab}
+use Rattle.lists.proofs.Cases.{both-true, both-left, both-right, same-test, every-at, every-of}
+use Rattle.lists.proofs.Tab.{getD-tab, is-tab}
 use Rattle.lists.proofs.Splice.{sameList-true, sameList-refl}
 use Rattle.header.specs.Fields.{majorOf}
 use Rattle.header.specs.declared.Version.{Version}
@@ -28,7 +28,7 @@ use Rattle.agree.specs.Agree.{sameFields, sameHeader, holds}
 use Rattle.agree.specs.Parts.{allZero, tailsZero}
 
 -- the code's conjunction is the definitions'
-pub and-both : (a b : Bool) → (a && b) ≡ both a b
+and-both : (a b : Bool) → (a && b) ≡ both a b
 and-both true b = refl
 and-both false b = refl
 

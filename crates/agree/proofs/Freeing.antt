@@ -1,5 +1,5 @@
 -- The laws of a free list in any order: how often a number stands in it, and what the stored places tell. Assumes nothing.
-use Prim.Native.Nat.{ℕ, zero, suc, _+_, _≤_, _<_}
+use Prim.Native.Nat.{ℕ, zero, suc, _≤_, _<_}
 use mathlib.Core.Path.{_≡_, refl, sym, _∙_, ap}
 use mathlib.Core.Bool.{Bool, true, false, not}
 use mathlib.Core.List.{List, [], _∷_}
@@ -10,9 +10,9 @@ use borrow.Author.Tests.{eq-eqb, ne-eqb, eqb-true, ltb-true, lt-ltb}
 use lib.Dec.{eqb, ltb}
 use lib.ListN.{length, getD}
 use Rattle.lists.specs.Lists.{choose, both, either, every}
-use Rattle.lists.proofs.Cases.{same-or, not-both, both-true, both-left, both-right, both-false-left, both-false-right, same-test, either-cases, either-right, every-at, every-of, true-or, alike, unlike}
+use Rattle.lists.proofs.Cases.{same-or, not-both, both-true, both-left, both-right, both-false-left, same-test, either-cases, either-right, every-at, every-of, true-or, alike, unlike}
 use Rattle.consts.specs.Consts.{freeSector}
-use Rattle.fat.specs.Lists.{allBelow, different}
+use Rattle.fat.specs.Lists.{allBelow}
 use Rattle.fat.proofs.Differing.{below-at, below-of, different-at, different-of, Placed, standsAt, places-tell}
 use Rattle.judge.specs.Judge.{allMarked, freesOf}
 use Rattle.judge.proofs.Marking.{marked-at, marked-of}
@@ -21,7 +21,7 @@ use Rattle.agree.specs.Agrees.{FreesOnce}
 use Rattle.agree.specs.Parts.{placeTells, coveredAt, freesSame}
 
 -- a number that stands nowhere, somewhere, in one place alone
-pub occurs-none : (x : ℕ) (ys : List ℕ) → ((j : ℕ) → j < length ys → getD ys j 0 ≡ x → ⊥) → occurs x ys ≡ 0
+occurs-none : (x : ℕ) (ys : List ℕ) → ((j : ℕ) → j < length ys → getD ys j 0 ≡ x → ⊥) → occurs x ys ≡ 0
 unfolding occurs
 occurs-none x [] n = refl
 occurs-none x (y ∷ ys) n = rw (ne-eqb x y (λ e. n 0 (omega arith) (sym e))) (occurs-none x ys (λ j h. n (suc j) (omega arith)))

@@ -5,18 +5,18 @@ use mathlib.Core.Bool.{Bool, true, false, not}
 use mathlib.Core.List.{List, [], _∷_}
 use mathlib.Core.Logic.{_⊎_, ⊎-elim, _≢_}
 use native.Mathlib.Omega.{arith}
-use borrow.Author.Tests.{le-leb, lt-leb, eq-eqb, ne-eqb, not-true, not-false}
+use borrow.Author.Tests.{le-leb, lt-leb, eq-eqb, ne-eqb, not-true}
 use lib.Dec.{eqb, leb}
 use lib.ListN.{length, getD}
 use lib.Seq.{ext-getD}
-use Rattle.lists.specs.Lists.{choose, both, every, sameList}
-use Rattle.lists.specs.Rows.{Row, row, refusal}
-use Rattle.lists.proofs.Cases.{same-or, below-or, true-or, not-both, both-true, both-left, both-right, both-false-left, both-false-right, same-test}
-use Rattle.lists.proofs.Rows.{stop, pass}
+use Rattle.lists.specs.Lists.{choose, both, sameList}
+use Rattle.lists.specs.Rows.{row, refusal}
+use Rattle.lists.proofs.Cases.{same-or, below-or, true-or, not-both, both-true, both-left, both-right, both-false-left, both-false-right}
+use Rattle.lists.proofs.Rows.{stop}
 use Rattle.lists.proofs.Tab.{length-tab, getD-tab}
 use Rattle.lists.proofs.Splice.{sameList-true}
 use Rattle.consts.specs.Consts.{maxRegular, invalidSector, endOfChain, difatSector, fatSector}
-use Rattle.judge.specs.Judge.{allMarked, markedFat, regular, forgiven, pointed, wrongAt, firstWrong, forgivenFat, marksOf, noneDangles, fatRows}
+use Rattle.judge.specs.Judge.{allMarked, markedFat, regular, forgiven, pointed, wrongAt, firstWrong, forgivenFat, noneDangles, fatRows}
 use Rattle.judge.proofs.Judging.{pointed-by, pointer-of, forgiven-low, forgiven-kind, forgiven-high}
 use Rattle.judge.proofs.Rows.{fat-rest}
 use Rattle.fat.specs.Loaded.{Covers}
@@ -116,7 +116,7 @@ module _ (strict : Bool) (n : ℕ) (fat : List ℕ) (small : n ≤ maxRegular) (
       ⊎-elim (λ (k : e < n). absurd (omega (arith, forgiven-low n e k))) (λ (g : n ≤ e). absurd (omega (arith, forgiven-high n e r g))) (below-or e n))
       (below-or maxRegular e)
 
-  pub once-of : firstWrong strict n fat 0 n ≡ 0 → Once kept
+  once-of : firstWrong strict n fat 0 n ≡ 0 → Once kept
   once-of z =
       record {
         unreserved = λ i h q. wrong-reserved strict n fat i small (right i (omega (arith, length-kept))) (reserved-kept _ (sym (at-kept i (omega (arith, length-kept))) ∙ q));
@@ -134,7 +134,7 @@ module _ (strict : Bool) (n : ℕ) (fat : List ℕ) (small : n ≤ maxRegular) (
       was : (i : ℕ) → i < n → getD kept i 0 < n → getD fat i 0 ≡ getD kept i 0
       was i h l = sym (at-kept i h ∙ low-kept _ (rw (at-kept i h) at l))
 
-  pub stays-of : firstWrong strict n fat 0 n ≡ 0 → strict ≡ true → kept ≡ fat
+  stays-of : firstWrong strict n fat 0 n ≡ 0 → strict ≡ true → kept ≡ fat
   stays-of z s =
       ext-getD 0 kept fat (length-kept ∙ sym long)
       (λ i h.
@@ -144,7 +144,7 @@ module _ (strict : Bool) (n : ℕ) (fat : List ℕ) (small : n ≤ maxRegular) (
       (λ (r : getD fat i 0 ≤ maxRegular). forgiven-low n _ (wrong-high strict n fat i small (first-each strict n fat 0 n z i (omega arith) (omega arith)) s r))
       (below-or maxRegular (getD fat i 0)))
 
-  pub of-once : Once kept → (strict ≡ true → kept ≡ fat) → firstWrong strict n fat 0 n ≡ 0
+  of-once : Once kept → (strict ≡ true → kept ≡ fat) → firstWrong strict n fat 0 n ≡ 0
   of-once o stays =
       first-none strict n fat 0 n
       (λ i l m.
@@ -186,7 +186,7 @@ module _ (strict : Bool) (raw difats fats : List ℕ) where
   unfolding listedMarked
   rows-left f = fat-rest strict raw difats fats f
 
-  pub rows-right : refusal (fatRows strict (length raw) raw difats fats) ≡ 0
+  rows-right : refusal (fatRows strict (length raw) raw difats fats) ≡ 0
       → (both strict (not (listedMarked raw difats fats)) ≡ false) × (firstWrong strict (length raw) marked 0 (length raw) ≡ 0) × (noneDangles (length raw) (forgivenFat (length raw) marked) ≡ true)
   unfolding refusal
   rows-right z =
@@ -203,7 +203,7 @@ module _ (strict : Bool) (raw difats fats : List ℕ) where
       last true d = refl
       last false d = absurd (omega arith)
 
-  pub right-rows : both strict (not (listedMarked raw difats fats)) ≡ false → firstWrong strict (length raw) marked 0 (length raw) ≡ 0 → noneDangles (length raw) (forgivenFat (length raw) marked) ≡ true
+  right-rows : both strict (not (listedMarked raw difats fats)) ≡ false → firstWrong strict (length raw) marked 0 (length raw) ≡ 0 → noneDangles (length raw) (forgivenFat (length raw) marked) ≡ true
       → refusal (fatRows strict (length raw) raw difats fats) ≡ 0
   unfolding refusal
   right-rows m w d = rows-left m ∙ rw (eq-eqb (firstWrong strict (length raw) marked 0 (length raw)) 0 w) (ap (λ (t : Bool). choose (not t) 18 0) d)

@@ -1,6 +1,6 @@
 -- The laws of whole lent tables: what an image that opens has in front, and zeros behind. Assumes nothing.
 use Prim.Native.Nat.{ℕ, _-_, _≤_}
-use mathlib.Core.Path.{_≡_, refl, sym, _∙_, ap}
+use mathlib.Core.Path.{_≡_, sym, _∙_, ap}
 use mathlib.Core.Bool.{Bool, true, false}
 use mathlib.Core.List.{List}
 use native.Mathlib.Omega.{arith}
@@ -15,13 +15,12 @@ use Rattle.lists.proofs.Splice.{sameList-true}
 use Rattle.header.specs.declared.Header.{Header}
 use Rattle.fat.specs.Lists.{fatCount, difatCount, difatsIn, fatsIn}
 use Rattle.fat.specs.Loaded.{Counted}
-use Rattle.fat.proofs.Listing.{fats-few, difats-few}
 use Rattle.judge.specs.Judge.{marksOf, freesOf}
 use Rattle.alloc.specs.Opening.{Tables, openFat, openTables, tableRows}
 use Rattle.alloc.specs.Opened.{Lent}
 use Rattle.alloc.proofs.Filled.{length-openFat, length-marks, length-fats, length-difats, counted-same}
 use Rattle.agree.specs.Agree.{holds, anyOrder, freesHeld, tablesHeld}
-use Rattle.agree.specs.Parts.{allZero, tailsZero, tablesSame, freesSame, TablesLent, WholeLent}
+use Rattle.agree.specs.Parts.{allZero, tailsZero, tablesSame, freesSame, TablesLent}
 use Rattle.agree.proofs.Comparing.{same-of, zeros-are, holds-front}
 use Rattle.agree.proofs.Listing.{refutes}
 use Rattle.agree.proofs.Accepting.{Fronts, fronts-exactly}

@@ -177,7 +177,7 @@ module _ (S : ℕ) (img : List ℕ) (h : Header) (n : ℕ) (fats difats : List �
         split false b c d e q = refl
         split true true true true e q = absurd (not-both refl q)
 
-    pub chain-same : r ≡ true → difats ≡ difatsOf S img (h .difat) (length difats)
+    chain-same : r ≡ true → difats ≡ difatsOf S img (h .difat) (length difats)
     chain-same t = sameList-true _ _ (both-right (chainRight S img (h .difat) n (length difats)) _ (sym told ∙ t))
 
     chain-right : r ≡ true → chainRight S img (h .difat) n (length difats) ≡ true

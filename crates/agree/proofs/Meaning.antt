@@ -1,15 +1,14 @@
 -- What the test of agreement means: the plain facts, and that it holds of what an opening leaves, the free list in any order. Assumes nothing.
 use Prim.Native.Nat.{ℕ, _+_, _-_, _≤_, _<_, min}
 use mathlib.Core.Path.{_≡_, refl, sym, _∙_, ap}
-use mathlib.Core.Bool.{Bool, true}
-use mathlib.Core.List.{List, _++_}
+use mathlib.Core.Bool.{true}
+use mathlib.Core.List.{List}
 use mathlib.Core.Logic.{_↔_, ⊎-elim}
 use native.Mathlib.Omega.{arith}
 use borrow.Author.Tests.{eq-eqb, eqb-true}
 use lib.Dec.{eqb}
 use lib.ListN.{length, getD, take, drop, replicate, length-append, length-drop, length-replicate, getD-replicate}
 use lib.Seq.{ext-getD, getD-drop}
-use Rattle.lists.specs.Lists.{both, sameList}
 use Rattle.lists.specs.Rows.{refusal}
 use Rattle.lists.proofs.Cases.{below-or, same-or, both-true, both-left, both-right, every-at, every-of}
 use Rattle.lists.proofs.Splice.{sameList-true}

@@ -1,13 +1,12 @@
 -- The laws of the single tests: of an entry that points, of a mark, of a FREE sector. Assumes nothing.
 use Prim.Native.Nat.{ℕ, _≤_, _<_}
-use mathlib.Core.Path.{_≡_, refl, sym, _∙_, ap}
+use mathlib.Core.Path.{_≡_, sym, _∙_, ap}
 use mathlib.Core.Bool.{Bool, true, false, not}
 use mathlib.Core.List.{List}
-use mathlib.Core.Logic.{_≢_}
 use borrow.Author.Tests.{le-leb, lt-leb, lt-ltb, le-ltb, eq-eqb, ne-eqb}
-use lib.Dec.{eqb, ltb}
+use lib.Dec.{eqb}
 use lib.ListN.{length, getD}
-use Rattle.lists.specs.Lists.{choose, both, either}
+use Rattle.lists.specs.Lists.{choose, either}
 use Rattle.lists.proofs.Cases.{alike, unlike}
 use Rattle.consts.specs.Consts.{invalidSector, freeSector}
 use Rattle.agree.specs.Parts.{pointStands, placeTells, markTells, coveredAt}

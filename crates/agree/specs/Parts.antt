@@ -10,7 +10,7 @@ use Rattle.lists.specs.Rows.{refusal}
 use Rattle.consts.specs.Consts.{invalidSector, difatSector, fatSector, freeSector}
 use Rattle.header.specs.declared.Header.{Header}
 use Rattle.sectors.specs.Sectors.{Holds}
-use Rattle.fat.specs.Lists.{most, fatCount, difatCount, difatAt, difatsOf, fatsOf, difatsIn, fatsIn, allBelow, ends, listsRight}
+use Rattle.fat.specs.Lists.{difatsIn, fatsIn, allBelow, listsRight}
 use Rattle.fat.specs.Loaded.{Counted, Covers, Places}
 use Rattle.judge.specs.Judge.{allMarked, markedFat, forgivenFat, pointed, marksOf, noneDangles, freesOf}
 use Rattle.alloc.specs.Opening.{Tables, openFat, tableRows}

@@ -1,5 +1,5 @@
 -- The fields are compared, then the lists.
-use mathlib.Core.Path.{_≡_, sym, _∙_}
+use mathlib.Core.Path.{sym, _∙_}
 use borrow.Author.Tests.{not-true, not-false}
 use Rattle.lists.proofs.Cases.{both-false-left, both-of-true}
 use Rattle.agree.specs.Agree.{sameHeader}

@@ -39,30 +39,53 @@ all-marked-requires : tie.Need-all-marked-requires
 all-marked-requires c κs = ranged c
 
 returns-3 : tie.Need-returns-3
-returns-3 c = frees-entries _ _ (counted (c .before .before .before .before)) (sym (c .before .all-marked .ensures) ∙ not-true _ (c .if3 .taken))
+returns-3 c =
+    let low = c .before .before in
+    let count = low .before .before in
+    frees-entries _ _ (counted count) (sym (c .before .all-marked .ensures) ∙ not-true _ (c .if3 .taken))
 
 put-places-requires : tie.Need-put-places-requires
-put-places-requires c κs = (below-more _ _ _ (c .before .before .before .before .before .before .before .before .before .before .pre .below) (ranged (c .before .before .before)), omega (arith, counted (c .before .before .before .before .before), frees-few (length (c .before .before .before .before .before .before .before .before .before .before .args .fat .now)) (c .before .before .before .before .before .before .before .before .before .before .args .fat .now), c .before .before .before .before .before .before .before .before .before .before .pre .few))
+put-places-requires c κs =
+    let low = c .before .before .before in
+    let count = low .before .before in
+    let g = entry (count .before) in
+    (below-more _ _ _ (g .pre .below) (ranged low), omega (arith, counted count, frees-few (length (g .args .fat .now)) (g .args .fat .now), g .pre .few))
 
 places-stand-requires : tie.Need-places-stand-requires
-places-stand-requires c κs = below-more _ _ _ (omega (arith, c .before .before .before .put-places .kept .1 .0, c .before .before .before .before .before .before .before .before .before .before .before .before .before .before .pre .below)) (ranged (c .before .before .before .before .before .before .before))
+places-stand-requires c κs =
+    let put = c .before .before .before in
+    let low = put .before .before .before .before in
+    let g = entry (low .before .before .before) in
+    below-more _ _ _ (omega (arith, put .put-places .kept .1 .0, g .pre .below)) (ranged low)
 
 same-length : tie.Need-same-length
 same-length c = search needs
 
 returns-4 : tie.Need-returns-4
-returns-4 c = frees-repeat _ _ (counted (c .before .before .before .before .before .before .before .before .before .before .before)) (c .before .before .before .before .before .put-places .last .1 .0) (c .before .before .before .before .before .put-places .ensures) (sym (c .before .places-stand .ensures) ∙ not-true _ (c .if4 .taken))
+returns-4 c =
+    let put = c .before .before .before .before .before in
+    let count = put .before .before .before .before .before .before in
+    frees-repeat _ _ (counted count) (put .put-places .last .1 .0) (put .put-places .ensures) (sym (c .before .places-stand .ensures) ∙ not-true _ (c .if4 .taken))
 
 covered-requires : tie.Need-covered-requires
-covered-requires c κs = omega (arith, c .before .before .before .before .before .before .put-places .kept .1 .0, c .before .before .before .before .before .before .before .before .before .before .before .before .before .before .before .before .before .pre .below)
+covered-requires c κs =
+    let put = c .before .before .before .before .before .before in
+    let low = put .before .before .before .before in
+    let g = entry (low .before .before .before) in
+    omega (arith, put .put-places .kept .1 .0, g .pre .below)
 
 same-length-2 : tie.Need-same-length-2
 same-length-2 c = search needs
 
 returns-5 : tie.Need-returns-5
 returns-5 c =
-    frees-cover _ _ (counted (c .before .before .before .before .before .before .before .before .before .before .before .before .before)) (c .before .before .before .before .before .before .before .put-places .last .1 .0) _ (ranged (c .before .before .before .before .before .before .before .before .before .before .before)) (sym (c .before .before .before .before .before .before .before .before .before .before .all-marked .ensures) ∙ not-false _ (c .before .before .before .before .before .before .before .before .before .if3 .left)) (c .before .before .before .before .before .before .before .put-places .ensures)
-    (sym (c .before .before .before .places-stand .ensures) ∙ not-false _ (c .before .before .if4 .left)) (c .covered .ensures)
+    let stand = c .before .before .before in
+    let put = stand .before .before .before .before in
+    let marked = put .before .before .before in
+    let low = marked .before in
+    let count = low .before .before in
+    frees-cover _ _ (counted count) (put .put-places .last .1 .0) _ (ranged low) (sym (marked .all-marked .ensures) ∙ not-false _ (put .before .before .if3 .left)) (put .put-places .ensures)
+    (sym (stand .places-stand .ensures) ∙ not-false _ (c .before .before .if4 .left)) (c .covered .ensures)
 
 pub same-frees-spec : {M : Type 1} → statement M
 same-frees-spec =

@@ -1,7 +1,7 @@
 -- The places are listed into the room, and the room compared.
 use lib.ListN.{length}
 use borrow.Author.Tests.{not-true, not-false}
-use Rattle.fat.specs.Loaded.{Places, PlacesListed}
+use Rattle.fat.specs.Loaded.{PlacesListed}
 use Rattle.agree.proofs.Listing.{places-as-long, places-unlisted, places-compared, places-room}
 use borrow.Author.Needs.{needs}
 use Rattle.agree.proofs.listed.are_places.Statement.{statement}

@@ -1,5 +1,4 @@
 -- The chain is listed into the room, and the room compared.
-use mathlib.Core.Path.{_≡_}
 use lib.ListN.{length}
 use borrow.Author.Tests.{not-true, not-false}
 use Rattle.fat.specs.Loaded.{ChainListed}

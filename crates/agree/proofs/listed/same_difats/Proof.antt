@@ -26,14 +26,18 @@ returns c = chain-wrong _ _ _ _ _ _ _ (c .before .before .before .is-chain .ensu
 different-requires : tie.Need-different-requires
 different-requires c κs =
     let i = c .before .before .before .before in
-    let g = c .before .before .before .before .before .before .before .before .before in
+    let g = i .before .before .before .before .before in
     (below-more _ _ _ (relent (i .is-chain .last .1 .1 .1 .1 .1 .0) (g .args .scratch .now) _ _ (i .is-chain .kept .1 .1 .1 .1 .1 .0) (g .pre .within) (g .pre .below)) (chain-low _ _ _ _ _ _ _ (i .is-chain .ensures) (not-false _ (c .before .if1 .left))), g .pre .few)
 
 same-length-2 : tie.Need-same-length-2
 same-length-2 c = search needs
 
 returns-2 : tie.Need-returns-2
-returns-2 c = chain-told _ _ _ _ _ _ _ (c .before .before .before .before .before .before .before .is-chain .ensures) _ (not-false _ (c .before .before .before .before .if1 .left)) (c .before .before .different .ensures)
+returns-2 c =
+    let d = c .before .before in
+    let e = d .before .before in
+    let i = e .before .before .before in
+    chain-told _ _ _ _ _ _ _ (i .is-chain .ensures) _ (not-false _ (e .if1 .left)) (d .different .ensures)
 
 pub same-difats-spec : {M : Type 1} → statement M
 same-difats-spec =

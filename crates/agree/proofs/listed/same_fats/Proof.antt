@@ -8,6 +8,10 @@ use borrow.Author.Needs.{needs}
 use Rattle.agree.proofs.listed.same_fats.Statement.{statement}
 use Rattle.agree.proofs.listed.same_fats.Tie as tie
 
+-- the lent lists
+abbrev entry : tie.After-are-places → tie.Start
+entry i = i .before .before .before .before .before .before .before
+
 slice-relend-prefix-are-places : tie.Need-slice-relend-prefix-are-places
 slice-relend-prefix-are-places c = search needs
 
@@ -24,7 +28,7 @@ returns : tie.Need-returns
 returns c = fats-wrong _ _ _ _ _ _ _ _ (c .before .before .before .are-places .ensures) (not-true _ (c .if1 .taken))
 
 rest-free-requires : tie.Need-rest-free-requires
-rest-free-requires c κs = c .before .before .before .before .before .before .before .before .before .before .pre .places
+rest-free-requires c κs = entry (c .before .before .before) .pre .places
 
 same-length-2 : tie.Need-same-length-2
 same-length-2 c = search needs
@@ -34,16 +38,21 @@ returns-2 c = fats-followed _ _ _ _ _ _ _ (sym (c .before .rest-free .ensures) �
 
 different-requires : tie.Need-different-requires
 different-requires c κs =
-    let i = c .before .before .before .before .before .before in
-    let g = c .before .before .before .before .before .before .before .before .before .before .before .before .before in
-    (below-more _ _ _ (relent (i .are-places .last .1 .1 .1 .1 .1 .1 .0) (g .args .scratch .now) _ _ (i .are-places .kept .1 .1 .1 .1 .1 .1 .0) (g .pre .within) (g .pre .below)) (fats-low _ _ _ _ _ _ _ _ (i .are-places .ensures) (not-false _ (c .before .before .before .if1 .left))), g .pre .few)
+    let e = c .before .before .before in
+    let i = e .before .before .before in
+    let g = entry i in
+    (below-more _ _ _ (relent (i .are-places .last .1 .1 .1 .1 .1 .1 .0) (g .args .scratch .now) _ _ (i .are-places .kept .1 .1 .1 .1 .1 .1 .0) (g .pre .within) (g .pre .below)) (fats-low _ _ _ _ _ _ _ _ (i .are-places .ensures) (not-false _ (e .if1 .left))), g .pre .few)
 
 same-length-3 : tie.Need-same-length-3
 same-length-3 c = search needs
 
 returns-3 : tie.Need-returns-3
 returns-3 c =
-    fats-told _ _ _ _ _ _ _ _ (c .before .before .before .before .before .before .before .before .before .are-places .ensures) _ (not-false _ (c .before .before .before .before .before .before .if1 .left)) (sym (c .before .before .before .before .before .rest-free .ensures) ∙ not-false _ (c .before .before .before .before .if2 .left)) (c .before .before .different .ensures)
+    let d = c .before .before in
+    let f = d .before .before in
+    let e = f .before .before in
+    let i = e .before .before .before in
+    fats-told _ _ _ _ _ _ _ _ (i .are-places .ensures) _ (not-false _ (e .if1 .left)) (sym (f .before .rest-free .ensures) ∙ not-false _ (f .if2 .left)) (d .different .ensures)
 
 pub same-fats-spec : {M : Type 1} → statement M
 same-fats-spec =

@@ -1,6 +1,5 @@
 -- The counts, the DIFAT's list and the FAT's are tested in turn. The DIFAT's list is the chain, so the places are read from it.
 use mathlib.Core.Path.{_≡_, sym, _∙_}
-use native.Mathlib.Omega.{arith}
 use borrow.Author.Tests.{not-true, not-false}
 use lib.ListN.{length}
 use Rattle.agree.proofs.Listing.{lists-chained, lists-counts, lists-chain, lists-places, lists-told}
@@ -8,8 +7,12 @@ use borrow.Author.Needs.{needs}
 use Rattle.agree.proofs.listed.same_lists.Statement.{statement}
 use Rattle.agree.proofs.listed.same_lists.Tie as tie
 
+-- the lent lists
+abbrev entry : tie.After-same-difats → tie.Start
+entry d = d .before .before .before .before .before .before .before .before
+
 -- the header's list has its 109 entries
-entries-there : (c : tie.After-list2) → length (c .before .before .before .before .before .before .before .before .before .before .before .before .before .args .h .list) ≡ 109
+entries-there : (c : tie.After-list2) → length (entry (c .before .before .before .before .before) .args .h .list) ≡ 109
 entries-there c = search needs
 
 counts-right-requires : tie.Need-counts-right-requires
@@ -25,23 +28,32 @@ same-length : tie.Need-same-length
 same-length c = search needs
 
 returns-2 : tie.Need-returns-2
-returns-2 c = lists-chain _ _ _ _ _ _ _ _ (c .before .before .before .before .before .before .before .before .before .before .before .pre) _ (c .before .before .before .same-difats .ensures) (not-true _ (c .if2 .taken))
+returns-2 c =
+    let d = c .before .before .before in
+    let g = entry d in
+    lists-chain _ _ _ _ _ _ _ _ (g .pre) _ (d .same-difats .ensures) (not-true _ (c .if2 .taken))
 
 slice-aggregate-same-fats : tie.Need-slice-aggregate-same-fats
 slice-aggregate-same-fats c = search needs
 
 same-fats-requires : tie.Need-same-fats-requires
 same-fats-requires c κs =
-    let i = c .before .before .before .before .before .before in
-    let g = c .before .before .before .before .before .before .before .before .before .before .before .before .before .before in
-    lists-places (g .args .s) (g .args .image .now) (g .args .h) (g .args .n) (g .args .fats .now) (g .args .difats .now) _ _ (g .pre) _ (i .same-difats .ensures) _ _ (entries-there (c .before)) (i .same-difats .kept .1 .1 .1 .1 .1 .0) (not-false _ (c .before .before .before .if2 .left))
+    let e = c .before .before .before in
+    let i = e .before .before .before in
+    let g = entry i in
+    lists-places (g .args .s) (g .args .image .now) (g .args .h) (g .args .n) (g .args .fats .now) (g .args .difats .now) _ _ (g .pre) _ (i .same-difats .ensures) _ _ (entries-there (c .before)) (i .same-difats .kept .1 .1 .1 .1 .1 .0) (not-false _ (e .if2 .left))
 
 same-length-2 : tie.Need-same-length-2
 same-length-2 c = search needs
 
 returns-3 : tie.Need-returns-3
 returns-3 c =
-    lists-told _ _ _ _ _ _ _ _ (c .before .before .before .before .before .before .before .before .before .before .before .before .before .before .before .before .before .pre) _ (c .before .before .before .before .before .before .before .before .before .same-difats .ensures) _ (sym (c .before .before .before .before .before .before .before .before .before .before .before .before .counts-right .ensures) ∙ not-false _ (c .before .before .before .before .before .before .before .before .before .before .before .if1 .left)) (not-false _ (c .before .before .before .before .before .before .if2 .left)) (c .before .before .same-fats .ensures)
+    let f = c .before .before in
+    let e = f .before .before .before .before in
+    let i = e .before .before .before in
+    let k = i .before .before in
+    let g = entry i in
+    lists-told _ _ _ _ _ _ _ _ (g .pre) _ (i .same-difats .ensures) _ (sym (k .before .counts-right .ensures) ∙ not-false _ (k .if1 .left)) (not-false _ (e .if2 .left)) (f .same-fats .ensures)
 
 pub same-lists-spec : {M : Type 1} → statement M
 same-lists-spec =

@@ -5,6 +5,10 @@ use borrow.Author.Needs.{needs}
 use Rattle.agree.proofs.points.mark_tells.Statement.{statement}
 use Rattle.agree.proofs.points.mark_tells.Tie as tie
 
+-- the lent tables
+abbrev entry : tie.After-index → tie.Start
+entry i = i .before .before .before .before .before
+
 mul-index : tie.Need-mul-index
 mul-index c = search needs
 
@@ -15,7 +19,7 @@ index-requires : tie.Need-index-requires
 index-requires c κs = search needs
 
 shared-slice-read-result : tie.Need-shared-slice-read-result
-shared-slice-read-result c = omega (arith, c .before .before .before .before .before .before .before .pre .one, c .before .before .before .before .before .before .before .pre .marked)
+shared-slice-read-result c = omega (arith, entry (c .before .before) .pre .one, entry (c .before .before) .pre .marked)
 
 returns : tie.Need-returns
 returns c = mark-past _ _ _ _ _ (c .before .before .index .ensures) (c .before .if1 .taken)
@@ -30,13 +34,13 @@ index-requires-2 : tie.Need-index-requires-2
 index-requires-2 c κs = search needs
 
 shared-slice-read-result-2 : tie.Need-shared-slice-read-result-2
-shared-slice-read-result-2 c = omega (arith, c .before .before .before .before .before .before .before .before .before .before .pre .one, c .before .before .before .before .before .before .before .before .before .before .pre .marked)
+shared-slice-read-result-2 c = omega (arith, entry (c .before .before .before .before .before) .pre .one, entry (c .before .before .before .before .before) .pre .marked)
 
 returns-2 : tie.Need-returns-2
 returns-2 c = mark-other _ _ _ _ _ (c .before .before .before .before .before .index .ensures) _ (c .before .before .before .before .if1 .left) (c .before .before .index2 .ensures) (c .before .if2 .taken)
 
 shared-slice-read-result-3 : tie.Need-shared-slice-read-result-3
-shared-slice-read-result-3 c = omega (arith, c .before .before .before .before .before .before .before .before .before .before .pre .one, c .before .before .before .before .before .before .before .before .before .before .pre .marked)
+shared-slice-read-result-3 c = omega (arith, entry (c .before .before .before .before .before) .pre .one, entry (c .before .before .before .before .before) .pre .marked)
 
 returns-3 : tie.Need-returns-3
 returns-3 c = mark-there _ _ _ _ _ (c .before .before .before .before .before .index .ensures) _ (c .before .before .before .before .if1 .left) (c .before .before .index2 .ensures) (c .before .if2 .left)

@@ -1,7 +1,6 @@
 -- Each stored place is one of an entry that points there, so all stand exactly where no two point at one sector, and they tell the marks; then no pointee may be FREE.
 use Prim.Native.Nat.{_≤_}
 use mathlib.Core.Path.{_≡_, sym, _∙_}
-use mathlib.Core.Bool.{true}
 use native.Mathlib.Omega.{arith}
 use borrow.Author.Tests.{not-true, not-false}
 use lib.ListN.{length}
@@ -42,8 +41,8 @@ returns c = points-not _ _ (once (c .before) ∙ not-true _ (c .if1 .taken))
 
 marks-tell-requires : tie.Need-marks-tell-requires
 marks-tell-requires c κs =
-    let e = c .before .before .before .before .before .before in
-    record { few = entry e .pre .few; below = kept e; marked = entry e .pre .marked }
+    let put = c .before .before .before .before .before .before in
+    record { few = entry put .pre .few; below = kept put; marked = entry put .pre .marked }
 
 same-length-2 : tie.Need-same-length-2
 same-length-2 c = search needs
@@ -58,7 +57,10 @@ same-length-3 : tie.Need-same-length-3
 same-length-3 c = search needs
 
 returns-3 : tie.Need-returns-3
-returns-3 c = points-all _ _ _ (once (c .before .before .before .before .before) ∙ not-false _ (c .before .before .before .before .if1 .left)) (told (c .before .before) ∙ not-false _ (c .before .if2 .left)) (c .none-dangles .ensures)
+returns-3 c =
+    let tell = c .before .before in
+    let stand = tell .before .before .before in
+    points-all _ _ _ (once stand ∙ not-false _ (tell .before .before .if1 .left)) (told tell ∙ not-false _ (c .before .if2 .left)) (c .none-dangles .ensures)
 
 pub same-points-spec : {M : Type 1} → statement M
 same-points-spec =

@@ -45,17 +45,27 @@ same-length-2 : tie.Need-same-length-2
 same-length-2 c = search needs
 
 returns-2 : tie.Need-returns-2
-returns-2 c = fat-differs _ _ _ _ _ _ (raw-is (c .before .before .before .before .before .before .before .before .before .before .before .before)) _ (c .before .before .before .before .before .set-listed .ensures) _ (c .before .stays .ensures) (not-true _ (c .if2 .taken))
+returns-2 c =
+    let listed = c .before .before .before .before .before in
+    let load = listed .before .before .before .before .before .before .before in
+    fat-differs _ _ _ _ _ _ (raw-is load) _ (listed .set-listed .ensures) _ (c .before .stays .ensures) (not-true _ (c .if2 .taken))
 
 is-forgiven-requires : tie.Need-is-forgiven-requires
-is-forgiven-requires c κs = c .before .before .before .before .before .before .set-listed .kept .0 ∙ long (c .before .before .before .before .before .before .before .before .before .before .before .before .before)
+is-forgiven-requires c κs =
+    let listed = c .before .before .before .before .before .before in
+    let load = listed .before .before .before .before .before .before .before in
+    listed .set-listed .kept .0 ∙ long load
 
 same-length-3 : tie.Need-same-length-3
 same-length-3 c = search needs
 
 returns-3 : tie.Need-returns-3
 returns-3 c =
-    fat-told _ _ _ _ _ _ (raw-is (c .before .before .before .before .before .before .before .before .before .before .before .before .before .before)) _ (c .before .before .before .before .before .before .before .set-listed .ensures) _ _ _ (c .before .before .before .before .before .before .before .before .before .before .unmarked .ensures) (c .before .before .before .before .before .before .before .before .before .if1 .left) (c .before .before .before .stays .ensures) (not-false _ (c .before .before .if2 .left)) (c .is-forgiven .ensures)
+    let kept = c .before .before .before in
+    let listed = kept .before .before .before .before in
+    let unlisted = listed .before .before .before in
+    let load = unlisted .before .before .before .before in
+    fat-told _ _ _ _ _ _ (raw-is load) _ (listed .set-listed .ensures) _ _ _ (unlisted .unmarked .ensures) (listed .before .before .if1 .left) (kept .stays .ensures) (not-false _ (c .before .before .if2 .left)) (c .is-forgiven .ensures)
 
 pub same-fat-spec : {M : Type 1} → statement M
 same-fat-spec =

@@ -49,14 +49,19 @@ slice-aggregate-same-fat : tie.Need-slice-aggregate-same-fat
 slice-aggregate-same-fat c = sym (length-take-le _ _ (room (c .before .before .before .before .before .before)))
 
 same-fat-requires : tie.Need-same-fat-requires
-same-fat-requires c κs = tables-fat-lent _ _ _ _ _ _ _ _ _ _ (entry (c .before .before .before .before .before .before) .pre) (right (c .before .before .before)) (length-take-le _ _ (room (c .before .before .before .before .before .before)))
+same-fat-requires c κs =
+    let e = c .before .before .before in
+    let l = e .before .before .before in
+    tables-fat-lent _ _ _ _ _ _ _ _ _ _ (entry l .pre) (right e) (length-take-le _ _ (room l))
 
 same-length-3 : tie.Need-same-length-3
 same-length-3 c = search needs
 
 returns-3 : tie.Need-returns-3
 returns-3 c =
-    tables-fat _ _ _ _ _ _ _ _ _ (omega (arith, c .before .before .before .before .before .before .before .before .before .before .before .before .before .before .before .before .before .before .pre .counted .few)) refl (sym (c .before .before .before .same-fat .ensures) ∙ not-true _ (c .if3 .taken))
+    let f = c .before .before .before in
+    let g = entry (f .before .before .before .before .before .before .before) in
+    tables-fat _ _ _ _ _ _ _ _ _ (omega (arith, g .pre .counted .few)) refl (sym (f .same-fat .ensures) ∙ not-true _ (c .if3 .taken))
 
 same-points-requires : tie.Need-same-points-requires
 same-points-requires c κs =
@@ -73,8 +78,14 @@ same-length-4 c = search needs
 
 returns-4 : tie.Need-returns-4
 returns-4 c =
-    tables-told _ _ _ _ _ _ _ _ _ (omega (arith, c .before .before .before .before .before .before .before .before .before .before .before .before .before .before .before .before .before .before .before .before .before .before .pre .counted .few)) refl _ (right (c .before .before .before .before .before .before .before .before .before .before .before)) (sym (c .before .before .before .before .before .before .before .before .before .before .tail-free .ensures) ∙ not-false _ (c .before .before .before .before .before .before .before .before .before .if2 .left))
-    (sym (c .before .before .before .before .before .before .before .same-fat .ensures) ∙ not-false _ (c .before .before .before .before .if3 .left)) (c .before .before .same-points .ensures)
+    let p = c .before .before in
+    let e = p .before .before in
+    let f = e .before .before .before in
+    let tail = f .before .before in
+    let lists = tail .before .before in
+    let l = lists .before .before .before in
+    tables-told _ _ _ _ _ _ _ _ _ (omega (arith, entry l .pre .counted .few)) refl _ (right lists) (sym (tail .before .tail-free .ensures) ∙ not-false _ (tail .if2 .left))
+    (sym (f .same-fat .ensures) ∙ not-false _ (e .if3 .left)) (p .same-points .ensures)
 
 pub same-tables-spec : {M : Type 1} → statement M
 same-tables-spec =

@@ -61,18 +61,24 @@ is-strict-requires c κs = search needs
 
 same-whole-requires : tie.Need-same-whole-requires
 same-whole-requires c κs =
-    let e = c .before .before .before .before .before .before .before in
+    let k = c .before .before in
+    let own = k .before .before in
+    let e = own .before .before .before in
     let says = e .before .judge-early .ensures in
-    agree-lent _ _ _ (entry (e .before) .args .sectors) _ _ (tables (entry (e .before))) (passed e) _ _ _ _ (says .len (e .if1 .left)) (says .sectors (e .if1 .left)) (says .header (e .if1 .left)) (own-header (c .before .before .before .before)) (c .before .before .if4 .left) (entry (e .before) .pre)
+    agree-lent _ _ _ (entry (e .before) .args .sectors) _ _ (tables (entry (e .before))) (passed e) _ _ _ _ (says .len (e .if1 .left)) (says .sectors (e .if1 .left)) (says .header (e .if1 .left)) (own-header own) (k .if4 .left) (entry (e .before) .pre)
 
 same-length : tie.Need-same-length
 same-length c = search needs
 
 returns-5 : tie.Need-returns-5
 returns-5 c =
-    let e = c .before .before .before .before .before .before .before .before .before .before in
+    let w = c .before .before in
+    let k = w .before .before in
+    let d = k .before .before in
+    let own = d .before in
+    let e = own .before .before .before in
     let says = e .before .judge-early .ensures in
-    agree-told _ _ _ _ _ _ (tables (entry (e .before))) (passed e) _ _ _ _ _ (c .before .before .before .before .is-strict .ensures) (says .len (e .if1 .left)) (says .sectors (e .if1 .left)) (says .header (e .if1 .left)) (own-header (c .before .before .before .before .before .before .before)) (c .before .before .before .before .before .before .if3 .left) (c .before .before .same-whole .ensures)
+    agree-told _ _ _ _ _ _ (tables (entry (e .before))) (passed e) _ _ _ _ _ (k .is-strict .ensures) (says .len (e .if1 .left)) (says .sectors (e .if1 .left)) (says .header (e .if1 .left)) (own-header own) (d .if3 .left) (w .same-whole .ensures)
 
 pub agrees-spec : {M : Type 1} → statement M
 agrees-spec =

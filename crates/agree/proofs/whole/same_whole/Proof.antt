@@ -3,7 +3,7 @@ use Prim.Native.Nat.{ℕ, _-_, _≤_}
 use mathlib.Core.Path.{_≡_, sym, _∙_, ap}
 use native.Mathlib.Omega.{arith}
 use borrow.Author.Tests.{not-true, not-false}
-use lib.ListN.{length, take}
+use lib.ListN.{length}
 use lib.Seq.{length-take-le}
 use Rattle.sectors.specs.Sectors.{perSector}
 use Rattle.fat.specs.Lists.{ceil, fatCount, difatCount}
@@ -18,6 +18,9 @@ use Rattle.agree.proofs.whole.same_whole.Tie as tie
 -- the lent tables, and the counts that n sectors ask for
 abbrev entry : tie.After-ceil2 → tie.Start
 entry s = s .before .before .before .before .before .before .before .before .before .before
+
+abbrev looked : tie.After-same-tables → tie.After-ceil2
+looked f = f .before .before .before .before .before .before .before .before
 
 abbrev tables : tie.Start → Tables
 tables g = record { fat = g .args .fat .now; fats = g .args .fats .now; difats = g .args .difats .now; frees = g .args .frees .now; marks = g .args .marks .now }
@@ -87,18 +90,18 @@ same-length c = search needs
 
 returns-2 : tie.Need-returns-2
 returns-2 c =
-    let s = c .before .before .before .before .before .before .before .before .before .before .before in
+    let s = looked (c .before .before .before) in
     whole-tables _ _ _ _ _ _ _ _ (tables (entry s)) (count-fats s) (count-difats s) _ (length-take-le _ _ (entry s .pre .lent .fat-long)) (sym (c .before .before .before .same-tables .ensures) ∙ not-true _ (c .if2 .taken))
 
 slice-aggregate-same-frees : tie.Need-slice-aggregate-same-frees
-slice-aggregate-same-frees c = sym (length-take-le _ _ (entry (c .before .before .before .before .before .before .before .before .before .before .before .before) .pre .lent .fat-long))
+slice-aggregate-same-frees c = sym (length-take-le _ _ (entry (looked (c .before .before .before .before)) .pre .lent .fat-long))
 
 slice-aggregate-same-frees-2 : tie.Need-slice-aggregate-same-frees-2
-slice-aggregate-same-frees-2 c = sym (length-take-le _ _ (frees-fit (c .before .before .before .before .before .before .before .before .before .before .before .before .before)))
+slice-aggregate-same-frees-2 c = sym (length-take-le _ _ (frees-fit (looked (c .before .before .before .before .before))))
 
 same-frees-requires : tie.Need-same-frees-requires
 same-frees-requires c κs =
-    let s = c .before .before .before .before .before .before .before .before .before .before .before .before .before .before in
+    let s = looked (c .before .before .before .before .before .before) in
     let long = length-take-le (entry s .args .n) (entry s .args .fat .now) (entry s .pre .lent .fat-long) in
     record { few = omega (arith, long, entry s .pre .lent .few); below = omega (arith, long, c .before .before .before .before .before .before .same-tables .kept .1 .1 .1 .1 .1 .1 .1 .1 .0, entry s .pre .below) }
 
@@ -107,9 +110,13 @@ same-length-2 c = search needs
 
 returns-3 : tie.Need-returns-3
 returns-3 c =
-    let s = c .before .before .before .before .before .before .before .before .before .before .before .before .before .before .before .before .before in
-    whole-told _ _ _ _ _ _ _ _ (tables (entry s)) (count-fats s) (count-difats s) _ (length-take-le _ _ (entry s .pre .lent .fat-long)) (frees-fit s) (sym (c .before .before .before .before .before .before .before .before .before .before .before .before .before .before .before .before .tails-zero .ensures) ∙ not-false _ (c .before .before .before .before .before .before .before .before .before .before .before .before .before .before .before .if1 .left))
-    (sym (c .before .before .before .before .before .before .before .before .before .same-tables .ensures) ∙ not-false _ (c .before .before .before .before .before .before .if2 .left)) _ (c .before .before .same-frees .ensures)
+    let p = c .before .before in
+    let e = p .before .before .before .before in
+    let f = e .before .before .before in
+    let z = f .before .before .before .before .before .before in
+    let s = looked f in
+    whole-told _ _ _ _ _ _ _ _ (tables (entry s)) (count-fats s) (count-difats s) _ (length-take-le _ _ (entry s .pre .lent .fat-long)) (frees-fit s) (sym (z .before .tails-zero .ensures) ∙ not-false _ (z .if1 .left))
+    (sym (f .same-tables .ensures) ∙ not-false _ (e .if2 .left)) _ (p .same-frees .ensures)
 
 pub same-whole-spec : {M : Type 1} → statement M
 same-whole-spec =

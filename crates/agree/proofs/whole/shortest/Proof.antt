@@ -1,5 +1,5 @@
 -- The lesser of lengths, four times, is the definition.
-use mathlib.Core.Path.{_≡_, _∙_, ap}
+use mathlib.Core.Path.{_∙_, ap}
 use Prim.Native.Nat.{min}
 use Rattle.alloc.specs.Opening.{shortest}
 use borrow.Author.Needs.{needs}

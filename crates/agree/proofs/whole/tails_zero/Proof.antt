@@ -1,5 +1,4 @@
 -- Five rests, each looked through.
-use mathlib.Core.Path.{_≡_}
 use Rattle.agree.proofs.Comparing.{tails-all}
 use borrow.Author.Needs.{needs}
 use Rattle.agree.proofs.whole.tails_zero.Statement.{statement}
