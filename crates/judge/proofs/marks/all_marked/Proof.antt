@@ -18,6 +18,10 @@ Inv-loop fat ids v marked₀ j₀ marked j = (j ≤ length ids) × (marked ≡ e
 abbrev μ-loop : tie.MeasureT-loop
 μ-loop fat ids v marked₀ j₀ marked j = length ids - j
 
+-- the function's entry, behind the loop
+abbrev entry : tie.At-loop Inv-loop μ-loop → tie.Start Inv-loop μ-loop
+entry c = c .before .before .before
+
 loop-holds : tie.Need-loop-holds Inv-loop μ-loop
 unfolding every
 loop-holds c = (omega arith, refl)
@@ -32,9 +36,9 @@ index-requires : tie.Need-index-requires Inv-loop μ-loop
 index-requires c κs = search needs
 
 -- a listed sector has an entry
-within : (c : tie.After-index Inv-loop μ-loop) → c .index .result < length (c .before .before .before .before .before .before .args .fat .now)
+within : (c : tie.After-index Inv-loop μ-loop) → c .index .result < length (entry (c .before .before .before) .args .fat .now)
 within c = let l = c .before .before .before .loop in
-    let g = c .before .before .before .before .before .before in
+    let g = entry (c .before .before .before) in
     below-given (length (g .args .fat .now)) (length (g .args .fat .now)) (g .args .ids .now) (l .j) (c .index .result) (g .pre) (c .before .before .loop-test .taken) (c .index .ensures) refl
 
 mul-if1 : tie.Need-mul-if1 Inv-loop μ-loop
@@ -52,7 +56,7 @@ loop-less c = omega arith
 loop-again : tie.Need-loop-again Inv-loop μ-loop
 loop-again c = let l = c .before .before .before .before .before .loop in
     let at = c .before .before .index in
-    let a = c .before .before .before .before .before .before .before .before .args in (
+    let a = entry (c .before .before .before .before .before) .args in (
       omega arith,
       ⊎-elim
           (λ w. other-turn (a .fat .now) (a .ids .now) (λ k. a .v) (l .j) (at .result) _ (c .if1 .marked) (at .ensures) refl (w .0 .taken) (w .1))
@@ -63,7 +67,7 @@ loop-again c = let l = c .before .before .before .before .before .loop in
 returns : tie.Need-returns Inv-loop μ-loop
 unfolding allMarked
 returns c = let l = c .before .loop in
-    let e : l .j ≡ length (c .before .before .before .before .args .ids .now) = omega arith in
+    let e : l .j ≡ length (entry (c .before) .args .ids .now) = omega arith in
     rw e at (l .inv .1)
 
 pub all-marked-spec : {M : Type 1} → statement M
