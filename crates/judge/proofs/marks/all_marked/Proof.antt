@@ -1,14 +1,13 @@
 -- `marks::all_marked` meets its contract: the flag says whether the sectors passed have the entry.
 use Prim.Native.Nat.{_≤_, _<_, _-_}
 use mathlib.Core.Path.{_≡_, refl}
-use mathlib.Core.Logic.{⊎-elim}
 use native.Mathlib.Omega.{arith}
 use borrow.Author.Needs.{needs}
 use lib.Dec.{eqb}
 use lib.ListN.{length}
 use Rattle.lists.specs.Lists.{every}
 use Rattle.judge.specs.Judge.{allMarked}
-use Rattle.fat.proofs.Differing.{listedAt, below-given, same-turn, other-turn}
+use Rattle.fat.proofs.Differing.{listedAt, below-given, listed-turn}
 use Rattle.judge.proofs.marks.all_marked.Statement.{statement}
 use Rattle.judge.proofs.marks.all_marked.Tie as tie
 
@@ -54,14 +53,11 @@ loop-less : tie.Need-loop-less Inv-loop μ-loop
 loop-less c = omega arith
 
 loop-again : tie.Need-loop-again Inv-loop μ-loop
-loop-again c = let l = c .before .before .before .before .before .loop in
-    let at = c .before .before .index in
-    let a = entry (c .before .before .before .before .before) .args in (
+loop-again c = let at = c .before .before .index in
+    let turn = c .before .before .before .before .before in
+    let a = entry turn .args in (
       omega arith,
-      ⊎-elim
-          (λ w. other-turn (a .fat .now) (a .ids .now) (λ k. a .v) (l .j) (at .result) _ (c .if1 .marked) (at .ensures) refl (w .0 .taken) (w .1))
-          (λ w. same-turn (a .fat .now) (a .ids .now) (λ k. a .v) (l .j) (at .result) _ (l .marked) (c .if1 .marked) (at .ensures) refl (w .0 .left) (l .inv .1) (w .1))
-          (c .if1 .came),
+      listed-turn (a .fat .now) (a .ids .now) (λ k. a .v) _ (at .result) _ _ _ (at .ensures) refl (turn .loop .inv .1) (c .if1 .came) (λ w. (w .0 .taken, w .1)) (λ w. (w .0 .left, w .1)),
     )
 
 returns : tie.Need-returns Inv-loop μ-loop
