@@ -21,6 +21,10 @@ abbrev μ-loop : tie.MeasureT-loop
 abbrev entry : tie.At-loop Inv-loop μ-loop → tie.Start Inv-loop μ-loop
 entry c = c .before .before .before .before
 
+-- where a turn of the loop began
+abbrev at-turn : tie.After-slice-known2 Inv-loop μ-loop → tie.In-loop Inv-loop μ-loop
+at-turn c = c .before .before .before .before .before .before
+
 -- sector p begins among the entries, and is below n
 begins : (c : tie.In-loop Inv-loop μ-loop) → c .before .loop .p * perSector (entry (c .before) .args .s) < length (entry (c .before) .args .fat .now)
 begins c = sector-begins _ _ _ _ (c .loop-test .taken) (entry (c .before) .pre .last)
@@ -74,7 +78,7 @@ loop-less : tie.Need-loop-less Inv-loop μ-loop
 loop-less c = omega arith
 
 loop-again : tie.Need-loop-again Inv-loop μ-loop
-loop-again c = let turn = c .before .before .before .before .before .before in
+loop-again c = let turn = at-turn c in
     let l = turn .before .loop in
     let end = c .before .before .before .before .before .lesser .ensures .2 ∙ ap (min _) (l .inv .2 .same) in
     (omega arith, l .inv .1, loaded-more _ _ _ (l .p) _ _ (l .fat) _ (l .inv .2) (begins turn) end (c .before .before .load-at .ensures))
