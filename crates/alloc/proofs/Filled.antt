@@ -11,7 +11,7 @@ use Rattle.header.specs.declared.Header.{Header}
 use Rattle.fat.specs.Lists.{fatCount, difatCount, difatsOf, fatsOf, difatsIn, fatsIn}
 use Rattle.judge.specs.Judge.{forgivenFat, marksOf, freesOf}
 use Rattle.fat.specs.Loaded.{Counted}
-use Rattle.alloc.specs.Opened.{TablesLoaded, padded, Zeroed, TablesFilled, AllFilled, Lent}
+use Rattle.alloc.specs.Opened.{TablesLoaded, padded, Zeroed, TablesFilled, AllFilled, AllLoaded, Lent}
 use Rattle.judge.specs.Judged.{Listed}
 use Rattle.alloc.specs.Opening.{openFat}
 use Rattle.alloc.specs.declared.open.Filled.{Filled}
@@ -162,29 +162,44 @@ lent-zeroed S n len a b c e g k fat fats difats marks l z1 z2 z3 z4 z5 =
     }
 
 -- what was loaded stays so when the lengths are had as other numbers
-pub filled-same : (strict : Bool) (S : ℕ) (img : List ℕ) (h : Header) (n a b c e g a' b' c' e' g' : ℕ) (r : Filled) (fat fats difats frees marks : List ℕ)
-    → a' ≡ a → b' ≡ b → c' ≡ c → e' ≡ e → g' ≡ g → AllFilled strict S img h n a' b' c' e' g' r fat fats difats frees marks → AllFilled strict S img h n a b c e g r fat fats difats frees marks
-filled-same strict S img h n a b c e g a' b' c' e' g' r fat fats difats frees marks ea eb ec ee eg f =
+pub filled-loaded : (strict : Bool) (S : ℕ) (img : List ℕ) (h : Header) (n a b c e g a' b' c' e' g' : ℕ) (r : Filled) (fat fats difats frees marks : List ℕ)
+    → a' ≡ a → b' ≡ b → c' ≡ c → e' ≡ e → g' ≡ g → r .no ≡ 0 → AllFilled strict S img h n a' b' c' e' g' r fat fats difats frees marks → AllLoaded strict S img h n a b c e g r fat fats difats frees marks
+filled-loaded strict S img h n a b c e g a' b' c' e' g' r fat fats difats frees marks ea eb ec ee eg z f =
     record {
-      number = f .number;
-      free = f .free;
-      fat-holds = λ z. f .fat-holds z ∙ ap (padded _) ea;
-      fats-hold = λ z. f .fats-hold z ∙ ap (padded _) eb;
-      difats-hold = λ z. f .difats-hold z ∙ ap (padded _) ec;
-      frees-hold = λ z. f .frees-hold z ∙ ap (padded _) ee;
-      marks-hold = λ z. f .marks-hold z ∙ ap (padded _) eg;
+      filled = record {
+        number = f .number;
+        free = f .free;
+        fat-holds = λ q. f .fat-holds q ∙ ap (padded _) ea;
+        fats-hold = λ q. f .fats-hold q ∙ ap (padded _) eb;
+        difats-hold = λ q. f .difats-hold q ∙ ap (padded _) ec;
+        frees-hold = λ q. f .frees-hold q ∙ ap (padded _) ee;
+        marks-hold = λ q. f .marks-hold q ∙ ap (padded _) eg;
+      };
+      fat-zero = λ n'. absurd (n' z);
+      fats-zero = λ n'. absurd (n' z);
+      difats-zero = λ n'. absurd (n' z);
+      frees-zero = λ n'. absurd (n' z);
+      marks-zero = λ n'. absurd (n' z);
     }
 
--- a refused loading says its number, whatever the tables hold
-pub refused-filled : (strict : Bool) (S : ℕ) (img : List ℕ) (h : Header) (n a b c e g a' b' c' e' g' : ℕ) (r : Filled) (fat fats difats frees marks fat' fats' difats' frees' marks' : List ℕ)
-    → (r .no ≡ 0 → ⊥) → AllFilled strict S img h n a' b' c' e' g' r fat' fats' difats' frees' marks' → AllFilled strict S img h n a b c e g r fat fats difats frees marks
-refused-filled strict S img h n a b c e g a' b' c' e' g' r fat fats difats frees marks fat' fats' difats' frees' marks' z f =
+-- a refused loading says its number, and the tables are zero
+pub refused-loaded : (strict : Bool) (S : ℕ) (img : List ℕ) (h : Header) (n a b c e g a' b' c' e' g' : ℕ) (r : Filled) (fat fats difats frees marks fat' fats' difats' frees' marks' : List ℕ)
+    → (r .no ≡ 0 → ⊥) → AllFilled strict S img h n a' b' c' e' g' r fat' fats' difats' frees' marks' → fat ≡ replicate a 0 → fats ≡ replicate b 0 → difats ≡ replicate c 0 → frees ≡ replicate e 0 → marks ≡ replicate g 0
+    → AllLoaded strict S img h n a b c e g r fat fats difats frees marks
+refused-loaded strict S img h n a b c e g a' b' c' e' g' r fat fats difats frees marks fat' fats' difats' frees' marks' z f z1 z2 z3 z4 z5 =
     record {
-      number = f .number;
-      free = f .free;
-      fat-holds = λ q. absurd (z q);
-      fats-hold = λ q. absurd (z q);
-      difats-hold = λ q. absurd (z q);
-      frees-hold = λ q. absurd (z q);
-      marks-hold = λ q. absurd (z q);
+      filled = record {
+        number = f .number;
+        free = f .free;
+        fat-holds = λ q. absurd (z q);
+        fats-hold = λ q. absurd (z q);
+        difats-hold = λ q. absurd (z q);
+        frees-hold = λ q. absurd (z q);
+        marks-hold = λ q. absurd (z q);
+      };
+      fat-zero = λ _. z1;
+      fats-zero = λ _. z2;
+      difats-zero = λ _. z3;
+      frees-zero = λ _. z4;
+      marks-zero = λ _. z5;
     }

@@ -1,6 +1,6 @@
 -- The tables are made zero and loaded; where that is refused they are made zero again, and only the number counts.
-use mathlib.Core.Path.{_≡_, _∙_}
-use Rattle.alloc.proofs.Filled.{zeros-as, lent-zeroed, filled-same, refused-filled}
+use mathlib.Core.Path.{_∙_}
+use Rattle.alloc.proofs.Filled.{zeros-as, lent-zeroed, filled-loaded, refused-loaded}
 use borrow.Author.Needs.{needs}
 use Rattle.alloc.proofs.open.load_all.Statement.{statement}
 use Rattle.alloc.proofs.open.load_all.Tie as tie
@@ -55,14 +55,10 @@ returns c =
     let k = again c .clear2 in
     let l = done .load-zeroed in
     let m = cleared (done .before) .clear in
-    record {
-      filled = refused-filled _ _ _ _ _ _ _ _ _ _ _ _ _ _ _ _ _ _ _ _ _ _ _ _ _ _ (refused c .if1 .taken) (l .ensures);
-      fat-zero = λ _. zeros-as _ _ _ (k .ensures .0) (l .kept .1 .1 .1 .1 .1 .0 ∙ m .kept .0);
-      fats-zero = λ _. zeros-as _ _ _ (k .ensures .1) (l .kept .1 .1 .1 .1 .1 .1 .0 ∙ m .kept .1 .0);
-      difats-zero = λ _. zeros-as _ _ _ (k .ensures .2) (l .kept .1 .1 .1 .1 .1 .1 .1 .0 ∙ m .kept .1 .1 .0);
-      frees-zero = λ _. zeros-as _ _ _ (k .ensures .3) (l .kept .1 .1 .1 .1 .1 .1 .1 .1 .0 ∙ m .kept .1 .1 .1 .0);
-      marks-zero = λ _. zeros-as _ _ _ (k .ensures .4) (l .kept .1 .1 .1 .1 .1 .1 .1 .1 .1 .0 ∙ m .kept .1 .1 .1 .1 .0);
-    }
+    let same = l .kept .1 .1 .1 .1 .1 in
+    refused-loaded _ _ _ _ _ _ _ _ _ _ _ _ _ _ _ _ _ _ _ _ _ _ _ _ _ _ (refused c .if1 .taken) (l .ensures)
+    (zeros-as _ _ _ (k .ensures .0) (same .0 ∙ m .kept .0)) (zeros-as _ _ _ (k .ensures .1) (same .1 .0 ∙ m .kept .1 .0)) (zeros-as _ _ _ (k .ensures .2) (same .1 .1 .0 ∙ m .kept .1 .1 .0))
+    (zeros-as _ _ _ (k .ensures .3) (same .1 .1 .1 .0 ∙ m .kept .1 .1 .1 .0)) (zeros-as _ _ _ (k .ensures .4) (same .1 .1 .1 .1 .0 ∙ m .kept .1 .1 .1 .1 .0))
 
 same-length-6 : tie.Need-same-length-6
 same-length-6 c = search needs
@@ -83,15 +79,7 @@ returns-2 : tie.Need-returns-2
 returns-2 c =
     let l = loaded (c .before) .load-zeroed in
     let k = cleared (loaded (c .before) .before) .clear in
-    let z : l .result .no ≡ 0 = search needs in
-    record {
-      filled = filled-same _ _ _ _ _ _ _ _ _ _ _ _ _ _ _ _ _ _ _ _ _ (k .kept .0) (k .kept .1 .0) (k .kept .1 .1 .0) (k .kept .1 .1 .1 .0) (k .kept .1 .1 .1 .1 .0) (l .ensures);
-      fat-zero = λ r. absurd (r z);
-      fats-zero = λ r. absurd (r z);
-      difats-zero = λ r. absurd (r z);
-      frees-zero = λ r. absurd (r z);
-      marks-zero = λ r. absurd (r z);
-    }
+    filled-loaded _ _ _ _ _ _ _ _ _ _ _ _ _ _ _ _ _ _ _ _ _ (k .kept .0) (k .kept .1 .0) (k .kept .1 .1 .0) (k .kept .1 .1 .1 .0) (k .kept .1 .1 .1 .1 .0) (c .if1 .left) (l .ensures)
 
 pub load-all-spec : {M : Type 1} → statement M
 load-all-spec =
