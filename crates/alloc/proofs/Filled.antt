@@ -11,7 +11,7 @@ use Rattle.header.specs.declared.Header.{Header}
 use Rattle.fat.specs.Lists.{fatCount, difatCount, difatsOf, fatsOf, difatsIn, fatsIn}
 use Rattle.judge.specs.Judge.{forgivenFat, marksOf, freesOf}
 use Rattle.fat.specs.Loaded.{Counted}
-use Rattle.alloc.specs.Opened.{TablesLoaded, padded, Zeroed, TablesFilled, AllFilled, Lent}
+use Rattle.alloc.specs.Opened.{TablesLoaded, padded, Zeroed, TablesFilled, AllFilled, AllLoaded, Lent}
 use Rattle.judge.specs.Judged.{Listed}
 use Rattle.alloc.specs.Opening.{openFat}
 use Rattle.alloc.specs.declared.open.Filled.{Filled}
@@ -82,8 +82,12 @@ pub front-padded : (xs now : List ℕ) (n m : ℕ) → now ≡ padded xs m → l
 unfolding padded
 front-padded xs now n m e l = ap (take n) e ∙ take-at xs _ n l
 
+-- a count of zeros, had as another number
+pub zeros-as : (xs : List ℕ) (a b : ℕ) → xs ≡ replicate a 0 → a ≡ b → xs ≡ replicate b 0
+zeros-as xs a b e h = e ∙ ap (λ (k : ℕ). replicate k 0) h
+
 -- the free list, put into a list of zeros
-pub free-listed : (S : ℕ) (img : List ℕ) (h : Header) (n a e r : ℕ) (fat zeros frees : List ℕ) → fat ≡ padded (openFat S img h n) a → zeros ≡ replicate e 0 → Listed (take n fat) zeros r frees
+free-listed : (S : ℕ) (img : List ℕ) (h : Header) (n a e r : ℕ) (fat zeros frees : List ℕ) → fat ≡ padded (openFat S img h n) a → zeros ≡ replicate e 0 → Listed (take n fat) zeros r frees
     → (r ≡ length (freesOf n (openFat S img h n))) × (frees ≡ padded (freesOf n (openFat S img h n)) e)
 unfolding padded
 free-listed S img h n a e r fat zeros frees ef ez l =
@@ -97,6 +101,36 @@ free-listed S img h n a e r fat zeros frees ef ez l =
           ∙ ap (λ (x : List ℕ). freesOf n (openFat S img h n) ++ x)
           (zero-rest zeros r (ez ∙ ap (λ (k : ℕ). replicate k 0) (sym zl)) ∙ ap (λ (k : ℕ). replicate (k - r) 0) zl ∙ ap (λ (k : ℕ). replicate (e - k) 0) number),
     )
+
+-- every table is loaded once the FREE sectors are listed into zeros
+pub listed-filled : (strict : Bool) (S : ℕ) (img : List ℕ) (h : Header) (n a b c e g r free k : ℕ) (fat fats difats zeros frees marks : List ℕ)
+    → r ≡ 0 → TablesFilled strict S img h n a b c g r fat fats difats marks → zeros ≡ replicate k 0 → k ≡ e → Listed (take n fat) zeros free frees
+    → AllFilled strict S img h n a b c e g (record { no = 0; free = free }) fat fats difats frees marks
+listed-filled strict S img h n a b c e g r free k fat fats difats zeros frees marks z t ez ek l =
+    let f = free-listed S img h n a e free fat zeros frees (t .fat-holds z) (zeros-as zeros k e ez ek) l in
+    record {
+      number = sym z ∙ t .number;
+      free = λ _. f .0;
+      fat-holds = λ _. t .fat-holds z;
+      fats-hold = λ _. t .fats-hold z;
+      difats-hold = λ _. t .difats-hold z;
+      frees-hold = λ _. f .1;
+      marks-hold = λ _. t .marks-hold z;
+    }
+
+-- a refused loading says its number, and nothing of the tables
+pub tables-refused : (strict : Bool) (S : ℕ) (img : List ℕ) (h : Header) (n a b c e g r : ℕ) (fat fats difats frees marks : List ℕ)
+    → TablesFilled strict S img h n a b c g r fat fats difats marks → (r ≡ 0 → ⊥) → AllFilled strict S img h n a b c e g (record { no = r; free = 0 }) fat fats difats frees marks
+tables-refused strict S img h n a b c e g r fat fats difats frees marks t z =
+    record {
+      number = t .number;
+      free = λ q. absurd (z q);
+      fat-holds = λ q. absurd (z q);
+      fats-hold = λ q. absurd (z q);
+      difats-hold = λ q. absurd (z q);
+      frees-hold = λ q. absurd (z q);
+      marks-hold = λ q. absurd (z q);
+    }
 
 -- a list that is a count of zeros has that length
 pub zeros-length : (xs : List ℕ) (a : ℕ) → xs ≡ replicate a 0 → length xs ≡ a
@@ -128,29 +162,44 @@ lent-zeroed S n len a b c e g k fat fats difats marks l z1 z2 z3 z4 z5 =
     }
 
 -- what was loaded stays so when the lengths are had as other numbers
-pub filled-same : (strict : Bool) (S : ℕ) (img : List ℕ) (h : Header) (n a b c e g a' b' c' e' g' : ℕ) (r : Filled) (fat fats difats frees marks : List ℕ)
-    → a' ≡ a → b' ≡ b → c' ≡ c → e' ≡ e → g' ≡ g → AllFilled strict S img h n a' b' c' e' g' r fat fats difats frees marks → AllFilled strict S img h n a b c e g r fat fats difats frees marks
-filled-same strict S img h n a b c e g a' b' c' e' g' r fat fats difats frees marks ea eb ec ee eg f =
+pub filled-loaded : (strict : Bool) (S : ℕ) (img : List ℕ) (h : Header) (n a b c e g a' b' c' e' g' : ℕ) (r : Filled) (fat fats difats frees marks : List ℕ)
+    → a' ≡ a → b' ≡ b → c' ≡ c → e' ≡ e → g' ≡ g → r .no ≡ 0 → AllFilled strict S img h n a' b' c' e' g' r fat fats difats frees marks → AllLoaded strict S img h n a b c e g r fat fats difats frees marks
+filled-loaded strict S img h n a b c e g a' b' c' e' g' r fat fats difats frees marks ea eb ec ee eg z f =
     record {
-      number = f .number;
-      free = f .free;
-      fat-holds = λ z. f .fat-holds z ∙ ap (padded _) ea;
-      fats-hold = λ z. f .fats-hold z ∙ ap (padded _) eb;
-      difats-hold = λ z. f .difats-hold z ∙ ap (padded _) ec;
-      frees-hold = λ z. f .frees-hold z ∙ ap (padded _) ee;
-      marks-hold = λ z. f .marks-hold z ∙ ap (padded _) eg;
+      filled = record {
+        number = f .number;
+        free = f .free;
+        fat-holds = λ q. f .fat-holds q ∙ ap (padded _) ea;
+        fats-hold = λ q. f .fats-hold q ∙ ap (padded _) eb;
+        difats-hold = λ q. f .difats-hold q ∙ ap (padded _) ec;
+        frees-hold = λ q. f .frees-hold q ∙ ap (padded _) ee;
+        marks-hold = λ q. f .marks-hold q ∙ ap (padded _) eg;
+      };
+      fat-zero = λ n'. absurd (n' z);
+      fats-zero = λ n'. absurd (n' z);
+      difats-zero = λ n'. absurd (n' z);
+      frees-zero = λ n'. absurd (n' z);
+      marks-zero = λ n'. absurd (n' z);
     }
 
--- a refused loading says its number, whatever the tables hold
-pub refused-filled : (strict : Bool) (S : ℕ) (img : List ℕ) (h : Header) (n a b c e g a' b' c' e' g' : ℕ) (r : Filled) (fat fats difats frees marks fat' fats' difats' frees' marks' : List ℕ)
-    → (r .no ≡ 0 → ⊥) → AllFilled strict S img h n a' b' c' e' g' r fat' fats' difats' frees' marks' → AllFilled strict S img h n a b c e g r fat fats difats frees marks
-refused-filled strict S img h n a b c e g a' b' c' e' g' r fat fats difats frees marks fat' fats' difats' frees' marks' z f =
+-- a refused loading says its number, and the tables are zero
+pub refused-loaded : (strict : Bool) (S : ℕ) (img : List ℕ) (h : Header) (n a b c e g a' b' c' e' g' : ℕ) (r : Filled) (fat fats difats frees marks fat' fats' difats' frees' marks' : List ℕ)
+    → (r .no ≡ 0 → ⊥) → AllFilled strict S img h n a' b' c' e' g' r fat' fats' difats' frees' marks' → fat ≡ replicate a 0 → fats ≡ replicate b 0 → difats ≡ replicate c 0 → frees ≡ replicate e 0 → marks ≡ replicate g 0
+    → AllLoaded strict S img h n a b c e g r fat fats difats frees marks
+refused-loaded strict S img h n a b c e g a' b' c' e' g' r fat fats difats frees marks fat' fats' difats' frees' marks' z f z1 z2 z3 z4 z5 =
     record {
-      number = f .number;
-      free = f .free;
-      fat-holds = λ q. absurd (z q);
-      fats-hold = λ q. absurd (z q);
-      difats-hold = λ q. absurd (z q);
-      frees-hold = λ q. absurd (z q);
-      marks-hold = λ q. absurd (z q);
+      filled = record {
+        number = f .number;
+        free = f .free;
+        fat-holds = λ q. absurd (z q);
+        fats-hold = λ q. absurd (z q);
+        difats-hold = λ q. absurd (z q);
+        frees-hold = λ q. absurd (z q);
+        marks-hold = λ q. absurd (z q);
+      };
+      fat-zero = λ _. z1;
+      fats-zero = λ _. z2;
+      difats-zero = λ _. z3;
+      frees-zero = λ _. z4;
+      marks-zero = λ _. z5;
     }

@@ -3,7 +3,7 @@ use Prim.Native.Nat.{ℕ, _+_, _≤_, _<_}
 use mathlib.Core.Path.{_≡_, sym, _∙_, ap}
 use mathlib.Core.Bool.{Bool, true, false, not}
 use mathlib.Core.List.{List}
-use mathlib.Core.Logic.{_↔_, ⊎-elim, _≢_}
+use mathlib.Core.Logic.{_↔_, _⊎_, ⊎-elim, _≢_}
 use native.Mathlib.Omega.{arith}
 use borrow.Author.Tests.{lt-ltb, ltb-true, eq-eqb, ne-eqb, eqb-true, eqb-false, not-true}
 use lib.Dec.{eqb, ltb}
@@ -101,13 +101,16 @@ places-tell xs ps placed =
     (λ t. different-of xs (λ i j hi hj e. sym (stored-own xs ps t i hi) ∙ ap (λ (x : ℕ). getD ps x 0) e ∙ stored-own xs ps t j hj))
     (λ t. every-of (length xs) (standsAt xs ps) (λ j hj. eq-eqb _ j (different-at xs t (getD ps (getD xs j 0) 0) j (placed j hj .0) hj (placed j hj .1))))
 
--- a loop that compares the listed entries in turn and keeps a flag: a turn where they are the same, and one where they are not
-pub same-turn : (fat ids : List ℕ) (g : ℕ → ℕ) (j at a : ℕ) (flag next : Bool) → at ≡ getD ids j 0 → a ≡ getD fat at 0 → a ≡ g j
-    → flag ≡ every j (λ k. eqb (listedAt fat ids k) (g k)) → next ≡ flag → next ≡ every (j + 1) (λ k. eqb (listedAt fat ids k) (g k))
-same-turn fat ids g j at a flag next p q s e stays =
-    every-yes (λ k. eqb (listedAt fat ids k) (g k)) j flag next (eq-eqb (listedAt fat ids j) (g j) (sym (q ∙ ap (λ (k : ℕ). getD fat k 0) p) ∙ s)) e stays
+-- a loop that compares numbers in turn and keeps a flag: one more turn, whichever way it came
+pub compared : {P Q : Type 0} (f g : ℕ → ℕ) (j a : ℕ) (flag next : Bool) → a ≡ f j → flag ≡ every j (λ k. eqb (f k) (g k)) → P ⊎ Q
+    → (P → (a ≡ g j → ⊥) × (next ≡ false)) → (Q → (a ≡ g j) × (next ≡ flag)) → next ≡ every (j + 1) (λ k. eqb (f k) (g k))
+compared f g j a flag next read e came other same =
+    ⊎-elim
+    (λ p. every-no (λ k. eqb (f k) (g k)) j next (ne-eqb (f j) (g j) (λ s. other p .0 (read ∙ s))) (other p .1))
+    (λ q. every-yes (λ k. eqb (f k) (g k)) j flag next (eq-eqb (f j) (g j) (sym read ∙ same q .0)) e (same q .1))
+    came
 
-pub other-turn : (fat ids : List ℕ) (g : ℕ → ℕ) (j at a : ℕ) (next : Bool) → at ≡ getD ids j 0 → a ≡ getD fat at 0 → (a ≡ g j → ⊥)
-    → next ≡ false → next ≡ every (j + 1) (λ k. eqb (listedAt fat ids k) (g k))
-other-turn fat ids g j at a next p q n stops =
-    every-no (λ k. eqb (listedAt fat ids k) (g k)) j next (ne-eqb (listedAt fat ids j) (g j) (λ s. n (q ∙ ap (λ (k : ℕ). getD fat k 0) p ∙ s))) stops
+-- so where what is compared is read at the numbers of a list
+pub listed-turn : {P Q : Type 0} (fat ids : List ℕ) (g : ℕ → ℕ) (j at a : ℕ) (flag next : Bool) → at ≡ getD ids j 0 → a ≡ getD fat at 0 → flag ≡ every j (λ k. eqb (listedAt fat ids k) (g k)) → P ⊎ Q
+    → (P → (a ≡ g j → ⊥) × (next ≡ false)) → (Q → (a ≡ g j) × (next ≡ flag)) → next ≡ every (j + 1) (λ k. eqb (listedAt fat ids k) (g k))
+listed-turn fat ids g j at a flag next p q = compared (listedAt fat ids) g j a flag next (q ∙ ap (λ (k : ℕ). getD fat k 0) p)

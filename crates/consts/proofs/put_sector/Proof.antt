@@ -19,7 +19,7 @@ same-length c = search needs
 
 returns : tie.Need-returns
 unfolding textOf
-returns c = put-known (c .before .before .before .before .before .before .s .given .1) (c .before .before .put-count .ensures)
+returns c = let put = c .before .before in put-known (put .before .before .before .before .s .given .1) (put .put-count .ensures)
 
 enum-told : tie.Need-enum-told
 enum-told c = search needs
@@ -51,7 +51,7 @@ same-length-3 c = search needs
 
 returns-3 : tie.Need-returns-3
 unfolding textOf
-returns-3 c = put-known (c .before .before .before .before .before .before .s2 .given .1) (c .before .before .put-count2 .ensures)
+returns-3 c = let put = c .before .before in put-known (put .before .before .before .before .s2 .given .1) (put .put-count2 .ensures)
 
 enum-known-s-3 : tie.Need-enum-known-s-3
 enum-known-s-3 c = search needs
@@ -67,7 +67,7 @@ same-length-4 c = search needs
 
 returns-4 : tie.Need-returns-4
 unfolding textOf
-returns-4 c = put-known (c .before .before .before .before .before .before .s3 .given .1) (c .before .before .put-count3 .ensures)
+returns-4 c = let put = c .before .before in put-known (put .before .before .before .before .s3 .given .1) (put .put-count3 .ensures)
 
 enum-known-s-4 : tie.Need-enum-known-s-4
 enum-known-s-4 c = search needs

@@ -36,8 +36,9 @@ same-length : tie.Need-same-length
 same-length c = search needs
 
 returns : tie.Need-returns
-returns c = let g = c .before .before .before .before .before .before .before in
-    c .before .before .load .ensures ∙ ap (λ (l : List ℕ). tab (entryIn l) (length (g .args .out .now))) (lent-sector (g .args .s) (g .args .id) (g .args .image .now))
+returns c = let loaded = c .before .before in
+    let g = loaded .before .before .before .before .before in
+    loaded .load .ensures ∙ ap (λ (l : List ℕ). tab (entryIn l) (length (g .args .out .now))) (lent-sector (g .args .s) (g .args .id) (g .args .image .now))
 
 pub load-at-spec : {M : Type 1} → statement M
 load-at-spec =

@@ -13,15 +13,19 @@ use borrow.Author.Needs.{needs}
 use Rattle.alloc.proofs.early.judge_early.Statement.{statement}
 use Rattle.alloc.proofs.early.judge_early.Tie as tie
 
--- what is known once the header is read: its number is 0, and it is the image's own
+-- where the header was read, and the function's entry
+abbrev at-header : tie.Else3 → tie.After-read-from
+at-header c = c .before .before .before .before .before
+
 abbrev entry3 : tie.Else3 → tie.Start
-entry3 c = c .before .before .before .before .before .before .before
+entry3 c = at-header c .before .before
 
 abbrev img : tie.Else3 → List ℕ
 img c = entry3 c .args .image .now
 
+-- what is known once the header is read: its number is 0, and it is the image's own
 read : (c : tie.Else3) → readNo (entry3 c .args .validation) (img c) ≡ 0
-read c = sym (c .before .number .ensures ∙ c .before .before .before .before .before .read-from .ensures .number) ∙ c .if3 .left
+read c = sym (c .before .number .ensures ∙ at-header c .read-from .ensures .number) ∙ c .if3 .left
 
 -- the sectors' length is that of the image's version
 abbrev S : tie.Else3 → ℕ
@@ -30,7 +34,7 @@ S c = lengthOf (headerOf (img c) .version)
 length-is : (c : tie.After-sector-len) → c .sector-len .result ≡ S (c .before)
 length-is c =
     c .sector-len .ensures
-    ∙ ap (λ (h : Header). lengthOf (h .version)) (read-header _ _ _ (c .before .before .before .before .before .before .read-from .ensures) (read (c .before)))
+    ∙ ap (λ (h : Header). lengthOf (h .version)) (read-header _ _ _ (at-header (c .before) .read-from .ensures) (read (c .before)))
 
 some : (c : tie.After-sector-len) → 512 ≤ c .sector-len .result
 some c = rw (length-is c) (length-some (headerOf (img (c .before)) .version))
@@ -70,7 +74,6 @@ stopped-requires-3 c κs = search needs
 returns-3 : tie.Need-returns-3
 returns-3 c =
     let n = c .before .before in
-    let g = n .before .before .before .before .before .before in
     early-no _ _ _ _ (n .number .result) _ _ (c .stopped3 .ensures) (c .before .if3 .taken)
     (early-header _ _ _ _ (n .before .before .if1 .left) (n .before .if2 .left) _ (n .number .ensures ∙ n .before .before .before .before .read-from .ensures .number) (c .before .if3 .taken))
 
@@ -128,7 +131,7 @@ returns-7 c =
       number = early-passed _ _ _ _ (e .before .before .before .if1 .left) (e .before .before .if2 .left) (read e) (whole w) (rw (count w) at (f .if5 .left)) (rw (room-is (c .before)) at (c .if6 .left));
       len = λ z. length-is (w .before);
       sectors = λ z. count w;
-      header = λ z. read-header _ _ _ (e .before .before .before .before .before .read-from .ensures) (read e);
+      header = λ z. read-header _ _ _ (at-header e .read-from .ensures) (read e);
     }
 
 pub judge-early-spec : {M : Type 1} → statement M

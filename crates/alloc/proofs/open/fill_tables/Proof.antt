@@ -1,5 +1,5 @@
 -- The counts computed are those that n sectors ask for, and each table is loaded into a front of that count: `filled`.
-use Prim.Native.Nat.{ℕ, _-_}
+use Prim.Native.Nat.{ℕ, _-_, _≤_}
 use mathlib.Core.Path.{_≡_, sym, _∙_, ap}
 use native.Mathlib.Omega.{arith}
 use lib.ListN.{length, take, replicate}
@@ -13,10 +13,21 @@ use borrow.Author.Needs.{needs}
 use Rattle.alloc.proofs.open.fill_tables.Statement.{statement}
 use Rattle.alloc.proofs.open.fill_tables.Tie as tie
 
--- the counts that the code computes are those that n sectors ask for
-abbrev entry : tie.After-ceil2 → tie.Start
-entry c = c .before .before .before .before .before .before .before .before .before
+-- the function's entry, behind the counts that are computed first
+abbrev start : tie.After-past-header → tie.Start
+start c = c .before .before .before .before .before .before .before .before
 
+abbrev entry : tie.After-ceil2 → tie.Start
+entry c = start (c .before)
+
+-- where the counts are done, before the tables are loaded, and where they were loaded
+abbrev counts : tie.After-load-tables-arg5 → tie.After-ceil2
+counts c = c .before .before .before .before .before
+
+abbrev loaded : tie.After-slice-known10 → tie.After-load-tables
+loaded c = c .before .before .before .before .before .before .before .before .before .before
+
+-- the counts that the code computes are those that n sectors ask for
 count-fats : (c : tie.After-ceil2) → c .before .before .ceil .result ≡ fatCount (entry c .args .s) (entry c .args .n)
 unfolding fatCount
 count-fats c = c .before .before .ceil .ensures
@@ -27,6 +38,13 @@ count-difats c = c .ceil2 .ensures ∙ ap (λ (k : ℕ). ceil k (perSector (entr
 
 counted : (c : tie.After-ceil2) → Counted (entry c .args .s) (entry c .args .n) (length (entry c .args .image .now)) (c .before .before .ceil .result) (c .ceil2 .result)
 counted c = zeroed-counted _ _ _ _ _ _ _ _ _ _ (entry c .pre) (count-fats c) (count-difats c)
+
+-- so many sectors' ids fit into the lent lists
+fats-fit : (c : tie.After-ceil2) → c .before .before .ceil .result ≤ length (entry c .args .fats .now)
+fats-fit c = omega (arith, fats-few _ _ _ _ _ (counted c), entry c .pre .fats-long)
+
+difats-fit : (c : tie.After-ceil2) → c .ceil2 .result ≤ length (entry c .args .difats .now)
+difats-fit c = omega (arith, difats-few _ _ _ _ _ (counted c), entry c .pre .difats-long)
 
 ceil-requires : tie.Need-ceil-requires
 ceil-requires c κs = search needs
@@ -39,40 +57,39 @@ sub-ceil c = search needs
 
 ceil-requires-2 : tie.Need-ceil-requires-2
 ceil-requires-2 c κs =
-    let g = c .before .before .before .before .before .before .before .before in
+    let g = start c in
     (omega (arith, g .pre .holds .two), omega (arith, c .past-header .ensures, c .before .ceil .ensures, ceil-few (g .args .n) (perSector (g .args .s)) (omega (arith, g .pre .holds .two)), g .pre .short, g .pre .few))
 
 slice-relend-prefix-load-tables : tie.Need-slice-relend-prefix-load-tables
 slice-relend-prefix-load-tables c = search needs
 
 slice-aggregate-load-tables : tie.Need-slice-aggregate-load-tables
-slice-aggregate-load-tables c = sym (length-take-le _ _ (c .before .before .before .before .before .before .before .before .before .before .pre .fat-long))
+slice-aggregate-load-tables c = sym (length-take-le _ _ (entry (c .before) .pre .fat-long))
 
 slice-relend-prefix-load-tables-2 : tie.Need-slice-relend-prefix-load-tables-2
-slice-relend-prefix-load-tables-2 c = omega (arith, fats-few _ _ _ _ _ (counted (c .before)), c .before .before .before .before .before .before .before .before .before .before .pre .fats-long)
+slice-relend-prefix-load-tables-2 c = fats-fit (c .before)
 
 slice-aggregate-load-tables-2 : tie.Need-slice-aggregate-load-tables-2
-slice-aggregate-load-tables-2 c = sym (length-take-le _ _ (omega (arith, fats-few _ _ _ _ _ (counted (c .before .before)), c .before .before .before .before .before .before .before .before .before .before .before .pre .fats-long)))
+slice-aggregate-load-tables-2 c = sym (length-take-le _ _ (fats-fit (c .before .before)))
 
 slice-relend-prefix-load-tables-3 : tie.Need-slice-relend-prefix-load-tables-3
-slice-relend-prefix-load-tables-3 c = omega (arith, difats-few _ _ _ _ _ (counted (c .before .before)), c .before .before .before .before .before .before .before .before .before .before .before .pre .difats-long)
+slice-relend-prefix-load-tables-3 c = difats-fit (c .before .before)
 
 slice-aggregate-load-tables-3 : tie.Need-slice-aggregate-load-tables-3
-slice-aggregate-load-tables-3 c = sym (length-take-le _ _ (omega (arith, difats-few _ _ _ _ _ (counted (c .before .before .before)), c .before .before .before .before .before .before .before .before .before .before .before .before .pre .difats-long)))
+slice-aggregate-load-tables-3 c = sym (length-take-le _ _ (difats-fit (c .before .before .before)))
 
 slice-relend-prefix-load-tables-4 : tie.Need-slice-relend-prefix-load-tables-4
 slice-relend-prefix-load-tables-4 c = search needs
 
 slice-aggregate-load-tables-4 : tie.Need-slice-aggregate-load-tables-4
-slice-aggregate-load-tables-4 c = sym (length-take-le _ _ (c .before .before .before .before .before .before .before .before .before .before .before .before .before .before .pre .marks-long))
+slice-aggregate-load-tables-4 c = sym (length-take-le _ _ (entry (counts c) .pre .marks-long))
 
 load-tables-requires : tie.Need-load-tables-requires
 load-tables-requires c κs =
-    let s = c .before .before .before .before .before in
+    let s = counts c in
     let g = entry s in
     let n : length (take (g .args .n) (g .args .fat .now)) ≡ g .args .n = length-take-le _ _ (g .pre .fat-long) in (
-      counted-same _ _ _ _ _ _ _ _ n
-          (length-take-le _ _ (omega (arith, fats-few _ _ _ _ _ (counted s), g .pre .fats-long))) (length-take-le _ _ (omega (arith, difats-few _ _ _ _ _ (counted s), g .pre .difats-long))) (counted s),
+      counted-same _ _ _ _ _ _ _ _ n (length-take-le _ _ (fats-fit s)) (length-take-le _ _ (difats-fit s)) (counted s),
       (omega (arith, n, g .pre .scratch-long), zero-front _ _ (g .pre .marks-zero) (g .pre .marks-long) ∙ ap (λ (m : ℕ). replicate m 0) (sym n)),
     )
 
@@ -93,8 +110,8 @@ same-length-5 c = search needs
 
 returns : tie.Need-returns
 returns c =
-    let l = c .before .before .before .before .before .before .before .before .before .before in
-    let s = l .before .before .before .before .before .before in
+    let l = loaded c in
+    let s = counts (l .before) in
     let g = entry s in
     filled _ _ _ _ _ _ _ _ _ _ _ _ _ _ _ _ _ _ _ (g .pre) (length-take-le _ _ (g .pre .fat-long)) (count-fats s) (count-difats s) (l .load-tables .ensures)
 

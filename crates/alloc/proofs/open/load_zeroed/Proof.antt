@@ -1,13 +1,27 @@
--- A refused loading is that of `fill_tables`; otherwise the FREE sectors are listed into zeros, by `free-listed`.
-use Prim.Native.Nat.{ℕ}
-use mathlib.Core.Path.{_≡_, sym, _∙_, ap}
+-- A refused loading is that of `fill_tables`; otherwise the FREE sectors are listed into zeros, by `listed-filled`.
+use mathlib.Core.Path.{_≡_, sym}
 use native.Mathlib.Omega.{arith}
-use lib.ListN.{length, take, replicate}
+use lib.ListN.{length, take}
 use lib.Seq.{length-take-le}
-use Rattle.alloc.proofs.Filled.{free-listed}
+use Rattle.alloc.proofs.Filled.{listed-filled, tables-refused}
 use borrow.Author.Needs.{needs}
 use Rattle.alloc.proofs.open.load_zeroed.Statement.{statement}
 use Rattle.alloc.proofs.open.load_zeroed.Tie as tie
+
+-- where the tables were loaded, before the FREE sectors are listed, and the function's entry
+abbrev loaded : tie.After-list-free-arg → tie.After-fill-tables
+loaded c = c .before .before .before .before .before .before .before .before .before .before .before .before .before .before .before .before
+
+abbrev entry : tie.After-fill-tables → tie.Start
+entry c = c .before .before .before .before .before .before .before .before .before .before .before .before
+
+-- the front that is listed has n entries
+front : (c : tie.After-list-free-arg) → length (take (entry (loaded c) .args .n) (loaded c .fill-tables .last .1 .1 .1 .1 .1 .0)) ≡ entry (loaded c) .args .n
+front c = length-take-le _ _ (omega (arith, loaded c .fill-tables .kept .1 .1 .1 .1 .1 .0, entry (loaded c) .pre .fat-long))
+
+-- where the loading was refused
+abbrev refused : tie.Then1 → tie.After-fill-tables
+refused c = c .before .before .before .before .before .before .before .before .before .before .before
 
 fill-tables-requires : tie.Need-fill-tables-requires
 fill-tables-requires c κs = search needs
@@ -28,17 +42,7 @@ same-length-5 : tie.Need-same-length-5
 same-length-5 c = search needs
 
 returns : tie.Need-returns
-returns c =
-    let l = c .before .before .before .before .before .before .before .before .before .before .before in
-    record {
-      number = l .fill-tables .ensures .number;
-      free = λ z. absurd (c .if1 .taken z);
-      fat-holds = λ z. absurd (c .if1 .taken z);
-      fats-hold = λ z. absurd (c .if1 .taken z);
-      difats-hold = λ z. absurd (c .if1 .taken z);
-      frees-hold = λ z. absurd (c .if1 .taken z);
-      marks-hold = λ z. absurd (c .if1 .taken z);
-    }
+returns c = tables-refused _ _ _ _ _ _ _ _ _ _ _ _ _ _ _ _ (refused c .fill-tables .ensures) (c .if1 .taken)
 
 fill32-requires : tie.Need-fill32-requires
 fill32-requires c κs = search needs
@@ -47,14 +51,12 @@ slice-reshare-prefix-list-free : tie.Need-slice-reshare-prefix-list-free
 slice-reshare-prefix-list-free c = search needs
 
 slice-aggregate-list-free : tie.Need-slice-aggregate-list-free
-slice-aggregate-list-free c = sym (length-take-le _ _ (omega (arith, c .before .before .before .before .before .before .before .before .before .before .before .before .before .before .before .before .fill-tables .kept .1 .1 .1 .1 .1 .0, c .before .before .before .before .before .before .before .before .before .before .before .before .before .before .before .before .before .before .before .before .before .before .before .before .before .before .before .before .pre .fat-long)))
+slice-aggregate-list-free c = sym (front c)
 
 list-free-requires : tie.Need-list-free-requires
 list-free-requires c κs =
-    let l = c .before .before .before .before .before .before .before .before .before .before .before .before .before .before .before .before .before in
-    let g = c .before .before .before .before .before .before .before .before .before .before .before .before .before .before .before .before .before .before .before .before .before .before .before .before .before .before .before .before .before in
-    let n : length (take (g .args .n) (l .fill-tables .last .1 .1 .1 .1 .1 .0)) ≡ g .args .n = length-take-le _ _ (omega (arith, l .fill-tables .kept .1 .1 .1 .1 .1 .0, g .pre .fat-long)) in
-    (omega (arith, n, c .before .before .before .before .fill32 .kept .0, l .fill-tables .kept .1 .1 .1 .1 .1 .1 .1 .1 .0, g .pre .scratch-long), omega (arith, n, g .pre .few))
+    let l = loaded (c .before) in
+    (omega (arith, front (c .before), c .before .before .before .before .fill32 .kept .0, l .fill-tables .kept .1 .1 .1 .1 .1 .1 .1 .1 .0, entry l .pre .scratch-long), omega (arith, front (c .before), entry l .pre .few))
 
 same-length-6 : tie.Need-same-length-6
 same-length-6 c = search needs
@@ -73,18 +75,9 @@ same-length-10 c = search needs
 
 returns-2 : tie.Need-returns-2
 returns-2 c =
-    let l = c .before .before .before .before .before .before .before .before .before .before .before .before .before .before .before .before .before .before .before .before in
-    let z : l .fill-tables .result ≡ 0 = search needs in
-    let frees = free-listed _ _ _ _ _ _ _ _ _ _ (l .fill-tables .ensures .fat-holds z) (c .before .before .before .before .before .before .before .fill32 .ensures ∙ ap (λ (k : ℕ). replicate k 0) (l .fill-tables .kept .1 .1 .1 .1 .1 .1 .1 .1 .0)) (c .before .before .list-free .ensures) in
-    record {
-      number = sym z ∙ l .fill-tables .ensures .number;
-      free = λ _. frees .0;
-      fat-holds = λ _. l .fill-tables .ensures .fat-holds z;
-      fats-hold = λ _. l .fill-tables .ensures .fats-hold z;
-      difats-hold = λ _. l .fill-tables .ensures .difats-hold z;
-      frees-hold = λ _. frees .1;
-      marks-hold = λ _. l .fill-tables .ensures .marks-hold z;
-    }
+    let listing = c .before .before .before .before in
+    let l = loaded listing in
+    listed-filled _ _ _ _ _ _ _ _ _ _ _ _ _ _ _ _ _ _ _ (listing .before .before .before .before .before .if1 .left) (l .fill-tables .ensures) (listing .before .before .before .fill32 .ensures) (l .fill-tables .kept .1 .1 .1 .1 .1 .1 .1 .1 .0) (c .before .before .list-free .ensures)
 
 pub load-zeroed-spec : {M : Type 1} → statement M
 load-zeroed-spec =

@@ -29,6 +29,20 @@ short-is j =
 first : (j : tie.After-judge-early) → j .judge-early .result .no ≡ refusal (firstRows (entry j .args .validation) (img j) (entry j .args .used) (shortest (tables j)))
 first j = j .judge-early .ensures .number ∙ ap (λ (k : ℕ). refusal (firstRows (entry j .args .validation) (img j) (entry j .args .used) k)) (short-is j)
 
+-- where the first rows were passed, before the tables are loaded, and what the code has from them
+abbrev passed : tie.After-load-all-arg5 → tie.Else1
+passed c = c .before .before .before .before .before .before .before
+
+abbrev early : tie.After-load-all-arg5 → tie.After-judge-early
+early c = passed c .before
+
+zero : (c : tie.After-load-all-arg5) → refusal (firstRows (entry (early c) .args .validation) (img (early c)) (entry (early c) .args .used) (shortest (tables (early c)))) ≡ 0
+zero c = sym (first (early c)) ∙ passed c .if1 .left
+
+-- where the tables were loaded
+abbrev loaded : tie.After-slice-known10 → tie.After-load-all
+loaded c = c .before .before .before .before .before .before .before .before .before .before
+
 lesser-of-requires : tie.Need-lesser-of-requires
 lesser-of-requires c κs = search needs
 
@@ -55,9 +69,9 @@ is-strict-requires c κs = search needs
 
 load-all-requires : tie.Need-load-all-requires
 load-all-requires c κs =
-    let j = c .before .before .before .before .before .before .before .before in
-    let z : j .judge-early .result .no ≡ 0 = c .before .before .before .before .before .before .before .if1 .left in
-    lent-own _ _ _ _ _ _ _ _ _ _ (j .judge-early .ensures .len z) (j .judge-early .ensures .sectors z) (opens-lent _ _ _ (tables j) (sym (first j) ∙ z))
+    let e = early c .judge-early .ensures in
+    let z = passed c .if1 .left in
+    lent-own _ _ _ _ _ _ _ _ _ _ (e .len z) (e .sectors z) (opens-lent _ _ _ (tables (early c)) (zero c))
 
 nothing-requires-2 : tie.Need-nothing-requires-2
 nothing-requires-2 c κs = search needs
@@ -79,11 +93,12 @@ same-length-5 c = search needs
 
 returns-2 : tie.Need-returns-2
 returns-2 c =
-    let j = c .before .before .before .before .before .before .before .before .before .before .before .before .before .before .before .before .before .before .before .before .before in
-    let z : j .judge-early .result .no ≡ 0 = c .before .before .before .before .before .before .before .before .before .before .before .before .before .before .before .before .before .before .before .before .if1 .left in
-    let e = j .judge-early .ensures in
-    opens-refused _ _ _ (tables j) (sym (first j) ∙ z) _ _ _ _ _ _
-    (loaded-own _ _ _ _ _ _ _ _ _ _ _ _ _ _ _ _ _ _ _ _ (c .before .before .before .before .before .before .before .before .before .before .before .before .before .before .before .before .before .before .is-strict .ensures) (e .len z) (e .header z) (e .sectors z) (c .before .before .before .before .before .before .before .before .before .before .before .before .load-all .ensures)) _ (c .nothing2 .ensures) (c .before .if2 .taken)
+    let l = loaded (c .before .before) in
+    let a = l .before in
+    let e = early a .judge-early .ensures in
+    let z = passed a .if1 .left in
+    opens-refused _ _ _ (tables (early a)) (zero a) _ _ _ _ _ _
+    (loaded-own _ _ _ _ _ _ _ _ _ _ _ _ _ _ _ _ _ _ _ _ (a .before .before .before .before .before .is-strict .ensures) (e .len z) (e .header z) (e .sectors z) (l .load-all .ensures)) _ (c .nothing2 .ensures) (c .before .if2 .taken)
 
 same-length-6 : tie.Need-same-length-6
 same-length-6 c = search needs
@@ -102,11 +117,12 @@ same-length-10 c = search needs
 
 returns-3 : tie.Need-returns-3
 returns-3 c =
-    let j = c .before .before .before .before .before .before .before .before .before .before .before .before .before .before .before .before .before .before .before .before in
-    let z : j .judge-early .result .no ≡ 0 = c .before .before .before .before .before .before .before .before .before .before .before .before .before .before .before .before .before .before .before .if1 .left in
-    let e = j .judge-early .ensures in
-    opens _ _ _ (tables j) (sym (first j) ∙ z) _ _ _ _ _ _
-    (loaded-own _ _ _ _ _ _ _ _ _ _ _ _ _ _ _ _ _ _ _ _ (c .before .before .before .before .before .before .before .before .before .before .before .before .before .before .before .before .before .is-strict .ensures) (e .len z) (e .header z) (e .sectors z) (c .before .before .before .before .before .before .before .before .before .before .before .load-all .ensures)) _ (found-own _ _ _ _ _ (e .sectors z) (e .header z)) (c .if2 .left)
+    let l = loaded (c .before) in
+    let a = l .before in
+    let e = early a .judge-early .ensures in
+    let z = passed a .if1 .left in
+    opens _ _ _ (tables (early a)) (zero a) _ _ _ _ _ _
+    (loaded-own _ _ _ _ _ _ _ _ _ _ _ _ _ _ _ _ _ _ _ _ (a .before .before .before .before .before .is-strict .ensures) (e .len z) (e .header z) (e .sectors z) (l .load-all .ensures)) _ (found-own _ _ _ _ _ (e .sectors z) (e .header z)) (c .if2 .left)
 
 pub open-tables-spec : {M : Type 1} → statement M
 open-tables-spec =

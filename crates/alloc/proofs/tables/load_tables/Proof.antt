@@ -12,13 +12,24 @@ use borrow.Author.Needs.{needs}
 use Rattle.alloc.proofs.tables.load_tables.Statement.{statement}
 use Rattle.alloc.proofs.tables.load_tables.Tie as tie
 
--- the lists are right, and cover the FAT's entries
+-- where the lists were loaded, and the function's entry
+abbrev listed : tie.After-slice-known8 → tie.After-load-lists
+listed c = c .before .before .before .before .before .before
+
 abbrev at-lists : tie.Else1 → tie.After-load-lists
-at-lists c = c .before .before .before .before .before .before .before
+at-lists c = listed (c .before)
 
 abbrev entry : tie.Else1 → tie.Start
 entry c = at-lists c .before .before .before .before .before .before .before .before .before .before
 
+-- where the FAT was loaded, and where its tail was found free before that
+abbrev fat-loaded : tie.After-judge-fat-arg4 → tie.After-load-fat
+fat-loaded c = c .before .before .before .before .before .before
+
+abbrev passed : tie.After-load-fat → tie.Else2
+passed c = c .before .before .before
+
+-- the lists are right, and cover the FAT's entries
 right : (c : tie.Else1) → at-lists c .load-lists .result ≡ true
 right c = not-false _ (c .if1 .left)
 
@@ -39,7 +50,7 @@ same-length-3 : tie.Need-same-length-3
 same-length-3 c = search needs
 
 returns : tie.Need-returns
-returns c = tables-12 _ _ _ _ _ _ _ _ _ _ (c .before .before .before .before .before .before .before .load-lists .ensures) (not-true _ (c .if1 .taken))
+returns c = tables-12 _ _ _ _ _ _ _ _ _ _ (listed (c .before) .load-lists .ensures) (not-true _ (c .if1 .taken))
 
 tail-free-requires : tie.Need-tail-free-requires
 tail-free-requires c κs = covers (c .before)
@@ -63,8 +74,8 @@ load-fat-requires c κs = covers (c .before .before .before .before .before)
 
 judge-fat-requires : tie.Need-judge-fat-requires
 judge-fat-requires c κs =
-    let e = c .before .before .before .before .before .before .before .before .before .before .before .before in
-    let k = c .before .before .before .before .before .before .load-fat .kept in (
+    let e = passed (fat-loaded c) .before .before .before in
+    let k = fat-loaded c .load-fat .kept in (
       (
         below-kept _ _ _ (k .1 .1 .1 .1 .0) (lists-difats _ _ _ _ _ _ _ (at-lists e .load-lists .ensures) (right e)),
         below-kept _ _ _ (k .1 .1 .1 .1 .0) (lists-fats _ _ _ _ _ _ _ (at-lists e .load-lists .ensures) (right e)),
@@ -89,9 +100,9 @@ same-length-11 c = search needs
 
 returns-3 : tie.Need-returns-3
 returns-3 c =
-    let i = c .before .before .before .before .before .before .before .before .before .before .before .before .before .before in
+    let f = fat-loaded (c .before .before .before .before .before) in
+    let i = passed f in
     let e = i .before .before .before in
-    let f = c .before .before .before .before .before .before .before .before .before .before .before in
     tables-judged _ _ _ _ _ _ _ _ (at-lists e .load-lists .ensures) (right e) _ _ _ _ _ (i .before .tail-free .ensures) (not-false _ (i .if2 .left))
     (f .load-fat .ensures) (f .load-fat .kept .1 .1 .1 .1 .0) (c .before .before .before .before .judge-fat .ensures)
 

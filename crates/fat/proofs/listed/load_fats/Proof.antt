@@ -10,17 +10,28 @@ use borrow.Author.Needs.{needs}
 use Rattle.fat.proofs.listed.load_fats.Statement.{statement}
 use Rattle.fat.proofs.listed.load_fats.Tie as tie
 
--- whether FREE follows, for as many places as were asked for
-abbrev entry : tie.After-rest-free → tie.Start
-entry c = c .before .before .before .before .before .before .before .before .before .before .before
+-- where the list was loaded, and the function's entry
+abbrev listed : tie.After-rest-free → tie.After-list-fats
+listed c = c .before .before .before .before
 
+abbrev start : tie.After-list-fats → tie.Start
+start c = c .before .before .before .before .before .before .before
+
+abbrev entry : tie.After-rest-free → tie.Start
+entry c = start (listed c)
+
+-- where FREE follows it, before the numbers are compared
+abbrev at-rest : tie.After-different-arg2 → tie.After-rest-free
+at-rest c = c .before .before .before
+
+-- whether FREE follows, for as many places as were asked for
 followed : (c : tie.After-rest-free)
     → restFree (entry c .args .s) (entry c .args .image .now) (entry c .args .list .now) (entry c .args .difats .now) (length (entry c .args .fats .now)) (length (entry c .args .difats .now))
     ≡ c .rest-free .result
 followed c =
     sym (c .rest-free .ensures
     ∙ ap (λ (k : ℕ). restFree (entry c .args .s) (entry c .args .image .now) (entry c .args .list .now) (entry c .args .difats .now) k (length (entry c .args .difats .now)))
-    (c .before .before .before .before .list-fats .kept .1 .1 .1 .1 .1 .0))
+    (listed c .list-fats .kept .1 .1 .1 .1 .1 .0))
 
 list-fats-requires : tie.Need-list-fats-requires
 list-fats-requires c κs = search needs
@@ -42,9 +53,9 @@ returns-2 c = fats-more _ _ _ _ _ _ _ (followed (c .before) ∙ not-true _ (c .i
 
 different-requires : tie.Need-different-requires
 different-requires c κs =
-    let r = c .before .before .before in
-    let l = r .before .before .before .before in
-    let g = l .before .before .before .before .before .before .before in
+    let r = at-rest c in
+    let l = listed r in
+    let g = start l in
     (below-more _ _ _ (g .pre .1 .1) (fats-below _ _ _ _ _ _ _ _ (l .list-fats .ensures) (not-false _ (r .before .if1 .left))), omega (arith, l .list-fats .kept .1 .1 .1 .1 .1 .0, g .pre .1 .0))
 
 same-length-3 : tie.Need-same-length-3
@@ -55,8 +66,8 @@ same-length-4 c = search needs
 
 returns-3 : tie.Need-returns-3
 returns-3 c =
-    let r = c .before .before .before .before .before .before in
-    let l = r .before .before .before .before in
+    let r = at-rest (c .before .before .before) in
+    let l = listed r in
     fats-load _ _ _ _ _ _ _ _ _ (l .list-fats .ensures) (not-false _ (r .before .if1 .left))
     (followed r ∙ not-false _ (c .before .before .before .before .before .if2 .left)) (c .before .before .different .ensures)
 

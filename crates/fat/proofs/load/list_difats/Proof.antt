@@ -22,6 +22,10 @@ abbrev μ-loop : tie.MeasureT-loop
 sub-last : tie.Need-sub-last Inv-loop μ-loop
 sub-last c = omega (arith, c .before .before .pre .two)
 
+-- the function's entry, behind the loop
+abbrev entry : tie.At-loop Inv-loop μ-loop → tie.Start Inv-loop μ-loop
+entry c = c .before .before .before
+
 loop-holds : tie.Need-loop-holds Inv-loop μ-loop
 loop-holds c = let g = c .before .before in
     (omega arith, refl, g .fits .first .fits, chain-first (g .args .s) (g .args .image .now) (g .args .first), filling-none _ _ _, refl)
@@ -34,7 +38,7 @@ same-length c = omega arith
 
 returns : tie.Need-returns Inv-loop μ-loop
 returns c = let l = c .before .before .loop in
-    let g = c .before .before .before .before .before in
+    let g = entry (c .before .before) in
     chain-stops (g .args .s) (g .args .image .now) (g .args .n) (g .args .first) (length (g .args .difats .now)) (l .j) (l .difats) (omega arith) (rw (l .inv .3) at (c .if1 .taken))
 
 mul-difats : tie.Need-mul-difats Inv-loop μ-loop
@@ -44,7 +48,7 @@ slice-write-difats : tie.Need-slice-write-difats Inv-loop μ-loop
 slice-write-difats c = omega arith
 
 entry-at-requires : tie.Need-entry-at-requires Inv-loop μ-loop
-entry-at-requires c κs = let g = c .before .before .before .before .before in
+entry-at-requires c κs = let g = entry (c .before .before) in
     (sector-within _ _ _ _ (g .pre) (c .if1 .left), last-within _ _ _ (g .pre))
 
 add-j : tie.Need-add-j Inv-loop μ-loop
@@ -55,7 +59,7 @@ loop-less c = omega arith
 
 loop-again : tie.Need-loop-again Inv-loop μ-loop
 loop-again c = let l = c .before .before .before .loop in
-    let g = c .before .before .before .before .before .before in (
+    let g = entry (c .before .before .before) in (
       omega arith,
       l .inv .1,
       omega arith,

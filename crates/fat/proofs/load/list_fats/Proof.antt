@@ -14,11 +14,15 @@ Inv-loop image s n list difats fats₀ p₀ fats p = (p ≤ length fats₀) × F
 abbrev μ-loop : tie.MeasureT-loop
 μ-loop image s n list difats fats₀ p₀ fats p = length fats₀ - p
 
+-- the function's entry, behind the loop
+abbrev entry : tie.At-loop Inv-loop μ-loop → tie.Start Inv-loop μ-loop
+entry c = c .before .before .before .before .before
+
 loop-holds : tie.Need-loop-holds Inv-loop μ-loop
 loop-holds c = (omega arith, filling-none _ _ _, refl)
 
 place-at-requires : tie.Need-place-at-requires Inv-loop μ-loop
-place-at-requires c κs = let g = c .before .before .before .before .before .before in
+place-at-requires c κs = let g = entry (c .before) in
     fewer-places _ _ _ _ _ _ _ (g .pre) (omega (arith, g .pre .there))
 
 cast-if1 : tie.Need-cast-if1 Inv-loop μ-loop
@@ -29,7 +33,7 @@ same-length c = omega arith
 
 returns : tie.Need-returns Inv-loop μ-loop
 returns c = let l = c .before .before .before .loop in
-    let g = c .before .before .before .before .before .before .before .before in
+    let g = entry (c .before .before .before) in
     places-stop _ _ _ _ _ (length (g .args .fats .now)) (l .p) _ (omega arith) (rw (c .before .place-at .ensures) at (c .if1 .taken))
 
 mul-fats : tie.Need-mul-fats Inv-loop μ-loop
@@ -53,7 +57,7 @@ same-length-2 c = omega arith
 
 returns-2 : tie.Need-returns-2 Inv-loop μ-loop
 returns-2 c = let l = c .before .loop in
-    let g = c .before .before .before .before .before .before in
+    let g = entry (c .before) in
     places-end _ _ _ _ _ (l .p) (g .args .fats .now) _ (l .inv .1) (omega arith)
 
 pub list-fats-spec : {M : Type 1} → statement M

@@ -17,12 +17,20 @@ Inv-loop image s n fats fat₀ each p₀ fat p = (p ≤ length fats) × (each �
 abbrev μ-loop : tie.MeasureT-loop
 μ-loop image s n fats fat₀ each p₀ fat p = length fats - p
 
--- sector p begins among the entries, and is below n
-begins : (c : tie.In-loop Inv-loop μ-loop) → c .before .loop .p * perSector (c .before .before .before .before .before .args .s) < length (c .before .before .before .before .before .args .fat .now)
-begins c = sector-begins _ _ _ _ (c .loop-test .taken) (c .before .before .before .before .before .pre .last)
+-- the function's entry, behind the loop
+abbrev entry : tie.At-loop Inv-loop μ-loop → tie.Start Inv-loop μ-loop
+entry c = c .before .before .before .before
 
-at-id : (c : tie.In-loop Inv-loop μ-loop) → getD (c .before .before .before .before .before .args .fats .now) (c .before .loop .p) 0 < c .before .before .before .before .before .args .n
-at-id c = below-at _ _ (c .before .before .before .before .before .pre .below) _ (c .loop-test .taken)
+-- where a turn of the loop began
+abbrev at-turn : tie.After-slice-known2 Inv-loop μ-loop → tie.In-loop Inv-loop μ-loop
+at-turn c = c .before .before .before .before .before .before
+
+-- sector p begins among the entries, and is below n
+begins : (c : tie.In-loop Inv-loop μ-loop) → c .before .loop .p * perSector (entry (c .before) .args .s) < length (entry (c .before) .args .fat .now)
+begins c = sector-begins _ _ _ _ (c .loop-test .taken) (entry (c .before) .pre .last)
+
+at-id : (c : tie.In-loop Inv-loop μ-loop) → getD (entry (c .before) .args .fats .now) (c .before .loop .p) 0 < entry (c .before) .args .n
+at-id c = below-at _ _ (entry (c .before) .pre .below) _ (c .loop-test .taken)
 
 loop-holds : tie.Need-loop-holds Inv-loop μ-loop
 loop-holds c = (omega arith, refl, loaded-none _ _ _ _)
@@ -58,7 +66,7 @@ part-load-at-end : tie.Need-part-load-at-end Inv-loop μ-loop
 part-load-at-end c = omega (arith, c .before .before .before .loop .inv .2 .same, c .before .lesser .ensures)
 
 load-at-requires : tie.Need-load-at-requires Inv-loop μ-loop
-load-at-requires c κs = let g = c .before .before .before .before .before .before .before .before in (
+load-at-requires c κs = let g = entry (c .before .before .before .before) in (
   sector-within _ _ _ _ (g .pre .holds) (at-id (c .before .before .before)),
   (omega (arith, g .pre .holds .two), simp length-take (omega (arith, g .pre .holds .entries, c .before .before .lesser .ensures))),
 )
@@ -70,17 +78,17 @@ loop-less : tie.Need-loop-less Inv-loop μ-loop
 loop-less c = omega arith
 
 loop-again : tie.Need-loop-again Inv-loop μ-loop
-loop-again c = let l = c .before .before .before .before .before .before .before .loop in
-    let g = c .before .before .before .before .before .before .before .before .before .before .before in
+loop-again c = let turn = at-turn c in
+    let l = turn .before .loop in
     let end = c .before .before .before .before .before .lesser .ensures .2 ∙ ap (min _) (l .inv .2 .same) in
-    (omega arith, l .inv .1, loaded-more _ _ _ (l .p) _ _ (l .fat) _ (l .inv .2) (begins (c .before .before .before .before .before .before)) end (c .before .before .load-at .ensures))
+    (omega arith, l .inv .1, loaded-more _ _ _ (l .p) _ _ (l .fat) _ (l .inv .2) (begins turn) end (c .before .before .load-at .ensures))
 
 same-length : tie.Need-same-length Inv-loop μ-loop
 same-length c = omega (arith, c .before .loop .inv .2 .same)
 
 returns : tie.Need-returns Inv-loop μ-loop
 returns c = let l = c .before .loop in
-    let g = c .before .before .before .before .before in
+    let g = entry (c .before) in
     let e : l .p ≡ length (g .args .fats .now) = omega arith in
     loaded-all _ _ _ (l .p) _ _ (l .inv .2) (rw e (g .pre .enough))
 

@@ -1,18 +1,15 @@
 -- The invariant: the flag says whether the first j places of the DIFAT sectors past the k are all FREE.
 use Prim.Native.Nat.{ℕ, _+_, _-_, _*_, _≤_}
-use mathlib.Core.Path.{_≡_, refl, sym, _∙_, ap}
-use mathlib.Core.Bool.{Bool}
-use mathlib.Core.Logic.{⊎-elim}
+use mathlib.Core.Path.{_≡_, refl, _∙_, ap}
 use native.Mathlib.Omega.{arith}
 use borrow.Author.Needs.{needs}
-use borrow.Author.Tests.{eq-eqb, ne-eqb}
 use lib.Dec.{eqb}
 use lib.ListN.{length}
 use Rattle.lists.specs.Lists.{every}
-use Rattle.lists.proofs.Cases.{every-yes, every-no}
 use Rattle.consts.specs.Consts.{freeSector}
 use Rattle.sectors.specs.Sectors.{perSector}
 use Rattle.fat.specs.Lists.{placeAt, restFree}
+use Rattle.fat.proofs.Differing.{compared}
 use Rattle.fat.proofs.Loading.{fewer-places}
 use Rattle.fat.proofs.load.rest_free.Statement.{statement}
 use Rattle.fat.proofs.load.rest_free.Tie as tie
@@ -24,6 +21,14 @@ Inv-loop image s n list difats k over count free₀ j₀ free j =
 
 abbrev μ-loop : tie.MeasureT-loop
 μ-loop image s n list difats k over count free₀ j₀ free j = count - j
+
+-- the function's entry, behind the loop
+abbrev entry : tie.At-loop Inv-loop μ-loop → tie.Start Inv-loop μ-loop
+entry c = c .before .before .before .before .before
+
+-- a place past the k, counted as the code counts it
+past : (at : ℕ → ℕ) (a over k j : ℕ) → a ≡ at (109 + over + j) → over ≡ k → a ≡ at (109 + k + j)
+past at a over k j e s = e ∙ ap (λ (o : ℕ). at (109 + o + j)) s
 
 past-header-requires : tie.Need-past-header-requires Inv-loop μ-loop
 past-header-requires c κs = search needs
@@ -42,13 +47,13 @@ unfolding every
 loop-holds c = (c .past-header .ensures, omega (arith, c .past-header .ensures), omega arith, refl)
 
 add-place-at : tie.Need-add-place-at Inv-loop μ-loop
-add-place-at c = omega (arith, c .before .before .before .before .before .before .pre .small)
+add-place-at c = omega (arith, entry (c .before) .pre .small)
 
 add-place-at-2 : tie.Need-add-place-at-2 Inv-loop μ-loop
-add-place-at-2 c = omega (arith, c .before .before .before .before .before .before .pre .small)
+add-place-at-2 c = omega (arith, entry (c .before) .pre .small)
 
 place-at-requires : tie.Need-place-at-requires Inv-loop μ-loop
-place-at-requires c κs = let g = c .before .before .before .before .before .before in
+place-at-requires c κs = let g = entry (c .before) in
     fewer-places _ _ _ _ _ _ _ (g .pre) (omega (arith, g .pre .there))
 
 add-j : tie.Need-add-j Inv-loop μ-loop
@@ -59,23 +64,19 @@ loop-less c = omega arith
 
 loop-again : tie.Need-loop-again Inv-loop μ-loop
 loop-again c = let l = c .before .before .before .loop in
-    let g = c .before .before .before .before .before .before .before .before in
+    let g = entry (c .before .before .before) in
     let at : ℕ → ℕ = placeAt (g .args .s) (g .args .image .now) (g .args .list .now) (g .args .difats .now) in
-    let f : ℕ → Bool = λ i. eqb (at (109 + (g .args .k - 109) + i)) freeSector in
-    let read = c .before .place-at .ensures ∙ ap (λ (o : ℕ). at (109 + o + l .j)) (l .inv .0) in (
+    let read = past at _ _ _ (l .j) (c .before .place-at .ensures) (l .inv .0) in (
       l .inv .0,
       l .inv .1,
       omega arith,
-      ⊎-elim
-          (λ w. every-no f (l .j) (c .if1 .free) (ne-eqb _ _ (λ e. w .0 .taken (read ∙ e))) (w .1))
-          (λ w. every-yes f (l .j) (l .free) (c .if1 .free) (eq-eqb _ _ (sym read ∙ w .0 .left)) (l .inv .3) (w .1))
-          (c .if1 .came),
+      compared (λ i. at (109 + (g .args .k - 109) + i)) (λ i. freeSector) _ _ _ _ read (l .inv .3) (c .if1 .came) (λ w. (w .0 .taken, w .1)) (λ w. (w .0 .left, w .1)),
     )
 
 returns : tie.Need-returns Inv-loop μ-loop
 unfolding restFree
 returns c = let l = c .before .loop in
-    let g = c .before .before .before .before .before .before in
+    let g = entry (c .before) in
     let e : l .j ≡ length (g .args .difats .now) * (perSector (g .args .s) - 1) - (g .args .k - 109) = omega arith in
     rw e at (l .inv .3)
 

@@ -19,9 +19,12 @@ use borrow.Author.Needs.{needs}
 use Rattle.header.proofs.Header.read_from.Statement.{statement}
 use Rattle.header.proofs.Header.read_from.Tie as tie
 
--- what is known once the signature is passed
+-- the function's entry, where the signature was passed, and what is known from there on
+abbrev entry : tie.Else2 → tie.Start
+entry c = c .before .before .before .before
+
 abbrev bytes : tie.Else2 → List ℕ
-bytes c = c .before .before .before .before .args .b .now
+bytes c = entry c .args .b .now
 
 whole : (c : tie.Else2) → 512 ≤ length (bytes c)
 whole c = c .before .before .if1 .left
@@ -31,10 +34,10 @@ signed c = sym (c .before .signed .ensures) ∙ not-false _ (c .if2 .left)
 
 -- what the judge says, and what it said where it refused nothing
 abbrev rows : tie.Else2 → List Row
-rows c = fixedRows (c .before .before .before .before .args .validation) (fixedOf (bytes c))
+rows c = fixedRows (entry c .args .validation) (fixedOf (bytes c))
 
 judged : (c : tie.After-judge) → readNumber (c .judge .result) ≡ refusal (rows (c .before .before))
-judged c = c .judge .ensures ∙ ap (λ (f : Fixed). refusal (fixedRows (c .before .before .before .before .before .before .args .validation) f)) (c .before .judged-by .ensures)
+judged c = c .judge .ensures ∙ ap (λ (f : Fixed). refusal (fixedRows (entry (c .before .before) .args .validation) f)) (c .before .judged-by .ensures)
 
 abbrev at-signed : tie.Else3 → tie.Else2
 at-signed c = c .before .before .before .before
@@ -42,8 +45,11 @@ at-signed c = c .before .before .before .before
 passed : (c : tie.Else3) → 0 ≡ refusal (rows (at-signed c))
 passed c = sym (sym (c .before .number .ensures) ∙ c .if3 .left) ∙ judged (c .before .before)
 
--- what the look at the list says
-listed : (c : tie.After-ids-then-free) → c .ids-then-free .result ≡ idsThenFree (listOf (bytes (at-signed (c .before .before .before .before))))
+-- where the judge refused nothing, before the look at the list, and what that says
+abbrev at-passed : tie.After-ids-then-free → tie.Else3
+at-passed c = c .before .before .before .before
+
+listed : (c : tie.After-ids-then-free) → c .ids-then-free .result ≡ idsThenFree (listOf (bytes (at-signed (at-passed c))))
 unfolding headerOf
 listed c = c .ids-then-free .ensures ∙ ap (λ (h : Header). idsThenFree (h .list)) (c .before .before .before .content .ensures)
 
@@ -96,13 +102,13 @@ refused-requires-4 c κs = search needs
 
 returns-4 : tie.Need-returns-4
 returns-4 c =
-    let p = c .before .before .before .before .before .before in
+    let p = at-passed (c .before .before) in
     says-no _ _ Entries _ (c .refused4 .ensures) (omega arith)
     (gives-9 _ _ (whole (at-signed p)) (signed (at-signed p)) (passed p) (sym (listed (c .before .before)) ∙ not-true _ (c .before .if4 .taken)))
 
 returns-5 : tie.Need-returns-5
 returns-5 c =
-    let p = c .before .before .before .before .before in
+    let p = at-passed (c .before) in
     says-yes _ _ _ (c .before .before .before .before .content .ensures)
     (gives-0 _ _ (whole (at-signed p)) (signed (at-signed p)) (passed p) (sym (listed (c .before)) ∙ not-false _ (c .if4 .left)))
 

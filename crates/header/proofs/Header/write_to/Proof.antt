@@ -13,26 +13,28 @@ use borrow.Author.Needs.{needs}
 use Rattle.header.proofs.Header.write_to.Statement.{statement}
 use Rattle.header.proofs.Header.write_to.Tie as tie
 
--- what the two looks at the header say
-counted : (c : tie.After-counts-dirs)
-    → countsDirs Strict (majorOf (c .before .before .before .before .args .self .version)) (c .before .before .before .before .args .self .dirs) ≡ c .counts-dirs .result
-counted c =
-    sym (c .counts-dirs .ensures
-    ∙ ap (λ (k : ℕ). countsDirs Strict k (c .before .before .before .before .args .self .dirs)) (c .before .number .ensures))
+-- the function's entry, behind the look at the directories' count, and where that was passed
+abbrev entry : tie.After-counts-dirs → tie.Start
+entry c = c .before .before .before .before
 
-looked : (c : tie.After-unreadable)
-    → unreadable (c .before .before .before .before .before .before .before .before .args .self .list)
-    (c .before .before .before .before .before .before .before .before .args .self .difat) ≡ c .unreadable .result
-looked c = sym (c .unreadable .ensures)
-
--- the places of the calls
 abbrev at-dirs : tie.After-list2 → tie.Else2
 at-dirs c = c .before .before
 
+abbrev start : tie.After-list2 → tie.Start
+start c = entry (at-dirs c .before)
+
+-- what the two looks at the header say
+counted : (c : tie.After-counts-dirs) → countsDirs Strict (majorOf (entry c .args .self .version)) (entry c .args .self .dirs) ≡ c .counts-dirs .result
+counted c = sym (c .counts-dirs .ensures ∙ ap (λ (k : ℕ). countsDirs Strict k (entry c .args .self .dirs)) (c .before .number .ensures))
+
+looked : (c : tie.After-unreadable) → unreadable (start (c .before) .args .self .list) (start (c .before) .args .self .difat) ≡ c .unreadable .result
+looked c = sym (c .unreadable .ensures)
+
 -- the list has its 109 entries
-entries-there : (c : tie.After-list2) → length (at-dirs c .before .before .before .before .before .args .self .list) ≡ 109
+entries-there : (c : tie.After-list2) → length (start c .args .self .list) ≡ 109
 entries-there c = search needs
 
+-- the places of the stores, and of the look before them
 abbrev at-list : tie.After-slice-known4 → tie.After-put-list
 at-list c = c .before .before
 
@@ -87,12 +89,11 @@ returns-4 : tie.Need-returns-4
 returns-4 c =
     let u = at-looked c in
     let d = at-dirs (u .before) in
-    let g = d .before .before .before .before .before in
     says-yes _ _ _
-    (header-stored (g .args .self) _ _ _ _ (d .before .before .before .if1 .left) (entries-there (at-looked c .before))
+    (header-stored (start (u .before) .args .self) _ _ _ _ (d .before .before .before .if1 .left) (entries-there (u .before))
     (at-start c .put-start .ensures) (at-numbers c .put-numbers .ensures) (at-list c .put-list .ensures))
     (gives-0 _ _ (d .before .before .before .if1 .left) (counted (d .before) ∙ d .if2 .left)
-    (looked u ∙ c .before .before .before .before .before .before .before .before .before .before .before .before .before .if3 .left))
+    (looked u ∙ at-start c .before .before .if3 .left))
 
 pub write-to-spec : {M : Type 1} → statement M
 write-to-spec =

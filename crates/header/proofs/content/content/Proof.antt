@@ -7,8 +7,11 @@ use Rattle.header.proofs.content.content.Statement.{statement}
 use Rattle.header.proofs.content.content.Tie as tie
 
 -- the places of the calls that are far back
+abbrev at-fats : tie.After-number-at8 → tie.After-number-at3
+at-fats c = c .before .before .before .before .before .before
+
 abbrev at-dirs : tie.After-number-at8 → tie.After-dirs-of
-at-dirs c = c .before .before .before .before .before .before .before
+at-dirs c = at-fats c .before
 
 abbrev at-version : tie.After-number-at8 → tie.After-version-of
 at-version c = at-dirs c .before .before
@@ -63,7 +66,7 @@ returns c =
     record {
       version = (at-version c .version-of .ensures ∙ ap versionOf major) i;
       dirs = (at-dirs c .dirs-of .ensures ∙ ap₂ dirsOf major (at-dirs c .before .number-at2 .ensures)) i;
-      fats = c .before .before .before .before .before .before .number-at3 .ensures i;
+      fats = at-fats c .number-at3 .ensures i;
       dir = c .before .before .before .before .before .number-at4 .ensures i;
       minifat = c .before .before .before .before .number-at5 .ensures i;
       minifats = c .before .before .before .number-at6 .ensures i;

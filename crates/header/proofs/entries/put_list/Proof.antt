@@ -16,6 +16,14 @@ Inv-loop buf₀ list at i₀ buf i = (i ≤ 109) × (at ≡ 76) × (buf ≡ spli
 abbrev μ-loop : tie.MeasureT-loop
 μ-loop buf₀ list at i₀ buf i = 109 - i
 
+-- the function's entry, behind the loop
+abbrev entry : tie.At-loop Inv-loop μ-loop → tie.Start Inv-loop μ-loop
+entry c = c .before .before .before .before
+
+-- where a turn of the loop began
+abbrev at-turn : tie.After-slice-known2 Inv-loop μ-loop → tie.At-loop Inv-loop μ-loop
+at-turn c = c .before .before .before .before .before .before
+
 row-requires : tie.Need-row-requires Inv-loop μ-loop
 row-requires c κs = omega arith
 
@@ -33,7 +41,7 @@ mul-put32-2 : tie.Need-mul-put32-2 Inv-loop μ-loop
 mul-put32-2 c = search needs
 
 shared-slice-read-put32 : tie.Need-shared-slice-read-put32 Inv-loop μ-loop
-shared-slice-read-put32 c = omega (arith, c .before .before .before .before .before .before .before .pre .1)
+shared-slice-read-put32 c = omega (arith, entry (c .before .before .before) .pre .1)
 
 put32-requires : tie.Need-put32-requires Inv-loop μ-loop
 put32-requires c κs = omega arith
@@ -46,9 +54,10 @@ loop-less c = omega arith
 
 loop-again : tie.Need-loop-again Inv-loop μ-loop
 loop-again c =
-    let l = c .before .before .before .before .before .before .loop in
-    let g = c .before .before .before .before .before .before .before .before .before .before in
-    let turn = c .before .before .put32 in (
+    let turn = c .before .before .put32 in
+    let begun = at-turn c in
+    let l = begun .loop in
+    let g = entry begun in (
       omega arith,
       l .inv .1,
       entries-more (g .args .buf .now) (l .buf) (turn .last .0) 76 _ (g .args .list .now) (l .i) (omega (arith, g .pre .1)) (omega (arith, g .pre)) (l .inv .1) (l .inv .2) (turn .ensures),
@@ -61,7 +70,7 @@ same-length c = omega arith
 returns : tie.Need-returns Inv-loop μ-loop
 returns c =
     let l = c .before .loop in
-    let g = c .before .before .before .before .before in
+    let g = entry (c .before) in
     entries-all (g .args .buf .now) (l .buf) 76 (g .args .list .now) (l .i) (omega (arith, g .pre .1)) (l .inv .2)
 
 pub put-list-spec : {M : Type 1} → statement M

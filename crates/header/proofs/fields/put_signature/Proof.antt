@@ -4,6 +4,10 @@ use borrow.Author.Needs.{needs}
 use Rattle.header.proofs.fields.put_signature.Statement.{statement}
 use Rattle.header.proofs.fields.put_signature.Tie as tie
 
+-- where the signature's row was read
+abbrev at-row : tie.After-slice-known2 → tie.After-row
+at-row c = c .before .before .before .before .before .before
+
 row-requires : tie.Need-row-requires
 row-requires c κs = search needs
 
@@ -30,8 +34,8 @@ same-length c = search needs
 
 returns : tie.Need-returns
 returns c =
-    let r = c .before .before .before .before .before .before .row in
-    let g = c .before .before .before .before .before .before .before .before in
+    let r = at-row c .row in
+    let g = at-row c .before .before in
     signature-stored (g .args .buf .now) (c .before .before .copy .last .1 .0) (r .result .at) (r .result .width) (g .pre) (r .ensures .0) (r .ensures .1) (c .before .before .copy .ensures)
 
 pub put-signature-spec : {M : Type 1} → statement M

@@ -28,8 +28,9 @@ same-length c = search needs
 
 returns : tie.Need-returns
 returns c =
-    let r = c .before .before .before .before .before .row in
-    let g = c .before .before .before .before .before .before .before in
+    let at-row = c .before .before .before .before .before in
+    let r = at-row .row in
+    let g = at-row .before .before in
     zeros-stored (g .args .buf .now) (c .before .before .fill .last .0) (g .args .place) (r .result .at) (r .result .width)
     (g .pre .1) (g .pre .0) (r .ensures .0) (r .ensures .1) (c .before .before .fill .ensures)
 

@@ -41,7 +41,7 @@ unfolding fixedRows
 past2 c = passed-more (rows (entry2 c)) 1 (past1 (c .before .before)) (sym (c .before .unknown .ensures) ∙ c .if2 .left)
 
 -- the shift that the version has
-shift-is : (c : tie.After-sector-shift) → c .sector-shift .result ≡ shiftOf (versionOf (c .before .before .before .before .before .before .args .f .major))
+shift-is : (c : tie.After-sector-shift) → c .sector-shift .result ≡ shiftOf (versionOf (entry2 (c .before .before) .args .f .major))
 shift-is c = c .sector-shift .ensures ∙ ap shiftOf (c .before .version-of .ensures)
 
 past3 : (c : tie.Else3) → Passed (rows (entry3 c)) 3

@@ -14,21 +14,25 @@ use borrow.Author.Needs.{needs}
 use Rattle.judge.proofs.judged.judge_fat.Statement.{statement}
 use Rattle.judge.proofs.judged.judge_fat.Tie as tie
 
--- what the judging says of the marked FAT
-abbrev entry : tie.After-judge → tie.Start
-entry c = c .before .before .before .before .before .before .before .before .before .before .before .before .before .before
+-- the function's entry, where row 14 was passed
+abbrev start : tie.Else1 → tie.Start
+start c = c .before .before .before .before .before .before .before
 
-none-lacks : (c : tie.Else1) → both (c .before .before .before .before .before .before .before .args .strict) (not (both
-    (allMarked (c .before .before .before .before .before .before .before .args .fat .now) (c .before .before .before .before .before .before .before .args .difats .now) difatSector)
-    (allMarked (c .before .before .before .before .before .before .before .args .fat .now) (c .before .before .before .before .before .before .before .args .fats .now) fatSector))) ≡ false
+none-lacks : (c : tie.Else1) → both (start c .args .strict) (not (both
+    (allMarked (start c .args .fat .now) (start c .args .difats .now) difatSector)
+    (allMarked (start c .args .fat .now) (start c .args .fats .now) fatSector))) ≡ false
 none-lacks c = sym (c .before .unmarked .ensures) ∙ c .if1 .left
+
+-- where the marked FAT was judged, and what the judging says of it
+abbrev at-left : tie.After-judge → tie.Else1
+at-left c = c .before .before .before .before .before .before .before
+
+abbrev entry : tie.After-judge → tie.Start
+entry c = start (at-left c)
 
 judged : (c : tie.After-judge)
     → Judged (entry c .args .strict) (markedFat (entry c .args .fat .now) (entry c .args .difats .now) (entry c .args .fats .now)) (c .judge .result) (c .judge .last .1 .0) (c .judge .last .1 .1 .0)
 judged c = judged-same _ _ _ _ _ _ (c .before .before .before .before .before .set-listed .ensures) (c .judge .ensures)
-
-abbrev at-left : tie.After-judge → tie.Else1
-at-left c = c .before .before .before .before .before .before .before
 
 unmarked-requires : tie.Need-unmarked-requires
 unmarked-requires c κs = search needs
@@ -45,7 +49,7 @@ set-listed-requires c κs = search needs
 judge-requires : tie.Need-judge-requires
 judge-requires c κs =
     let l = c .before .before .before .before in
-    let g = l .before .before .before .before .before .before .before .before .before in
+    let g = start (l .before .before) in
     (omega (arith, l .set-listed .kept .0, g .pre .1 .0), g .pre .1 .1 ∙ ap (λ (k : ℕ). replicate k 0) (sym (l .set-listed .kept .0)))
 
 same-length-2 : tie.Need-same-length-2

@@ -1,14 +1,13 @@
 -- `marks::all_marked` meets its contract: the flag says whether the sectors passed have the entry.
 use Prim.Native.Nat.{_≤_, _<_, _-_}
 use mathlib.Core.Path.{_≡_, refl}
-use mathlib.Core.Logic.{⊎-elim}
 use native.Mathlib.Omega.{arith}
 use borrow.Author.Needs.{needs}
 use lib.Dec.{eqb}
 use lib.ListN.{length}
 use Rattle.lists.specs.Lists.{every}
 use Rattle.judge.specs.Judge.{allMarked}
-use Rattle.fat.proofs.Differing.{listedAt, below-given, same-turn, other-turn}
+use Rattle.fat.proofs.Differing.{listedAt, below-given, listed-turn}
 use Rattle.judge.proofs.marks.all_marked.Statement.{statement}
 use Rattle.judge.proofs.marks.all_marked.Tie as tie
 
@@ -17,6 +16,10 @@ Inv-loop fat ids v marked₀ j₀ marked j = (j ≤ length ids) × (marked ≡ e
 
 abbrev μ-loop : tie.MeasureT-loop
 μ-loop fat ids v marked₀ j₀ marked j = length ids - j
+
+-- the function's entry, behind the loop
+abbrev entry : tie.At-loop Inv-loop μ-loop → tie.Start Inv-loop μ-loop
+entry c = c .before .before .before
 
 loop-holds : tie.Need-loop-holds Inv-loop μ-loop
 unfolding every
@@ -32,9 +35,9 @@ index-requires : tie.Need-index-requires Inv-loop μ-loop
 index-requires c κs = search needs
 
 -- a listed sector has an entry
-within : (c : tie.After-index Inv-loop μ-loop) → c .index .result < length (c .before .before .before .before .before .before .args .fat .now)
+within : (c : tie.After-index Inv-loop μ-loop) → c .index .result < length (entry (c .before .before .before) .args .fat .now)
 within c = let l = c .before .before .before .loop in
-    let g = c .before .before .before .before .before .before in
+    let g = entry (c .before .before .before) in
     below-given (length (g .args .fat .now)) (length (g .args .fat .now)) (g .args .ids .now) (l .j) (c .index .result) (g .pre) (c .before .before .loop-test .taken) (c .index .ensures) refl
 
 mul-if1 : tie.Need-mul-if1 Inv-loop μ-loop
@@ -50,20 +53,17 @@ loop-less : tie.Need-loop-less Inv-loop μ-loop
 loop-less c = omega arith
 
 loop-again : tie.Need-loop-again Inv-loop μ-loop
-loop-again c = let l = c .before .before .before .before .before .loop in
-    let at = c .before .before .index in
-    let a = c .before .before .before .before .before .before .before .before .args in (
+loop-again c = let at = c .before .before .index in
+    let turn = c .before .before .before .before .before in
+    let a = entry turn .args in (
       omega arith,
-      ⊎-elim
-          (λ w. other-turn (a .fat .now) (a .ids .now) (λ k. a .v) (l .j) (at .result) _ (c .if1 .marked) (at .ensures) refl (w .0 .taken) (w .1))
-          (λ w. same-turn (a .fat .now) (a .ids .now) (λ k. a .v) (l .j) (at .result) _ (l .marked) (c .if1 .marked) (at .ensures) refl (w .0 .left) (l .inv .1) (w .1))
-          (c .if1 .came),
+      listed-turn (a .fat .now) (a .ids .now) (λ k. a .v) _ (at .result) _ _ _ (at .ensures) refl (turn .loop .inv .1) (c .if1 .came) (λ w. (w .0 .taken, w .1)) (λ w. (w .0 .left, w .1)),
     )
 
 returns : tie.Need-returns Inv-loop μ-loop
 unfolding allMarked
 returns c = let l = c .before .loop in
-    let e : l .j ≡ length (c .before .before .before .before .args .ids .now) = omega arith in
+    let e : l .j ≡ length (entry (c .before) .args .ids .now) = omega arith in
     rw e at (l .inv .1)
 
 pub all-marked-spec : {M : Type 1} → statement M

@@ -16,6 +16,10 @@ Inv-loop fat₀ ids v j₀ fat j = (j ≤ length ids) × (setAll fat₀ ids v �
 abbrev μ-loop : tie.MeasureT-loop
 μ-loop fat₀ ids v j₀ fat j = length ids - j
 
+-- the function's entry, behind the loop
+abbrev entry : tie.At-loop Inv-loop μ-loop → tie.Start Inv-loop μ-loop
+entry c = c .before .before .before
+
 loop-holds : tie.Need-loop-holds Inv-loop μ-loop
 loop-holds c = (omega arith, refl, refl)
 
@@ -31,7 +35,7 @@ index-requires c κs = search needs
 -- a listed sector has an entry
 within : (c : tie.After-index Inv-loop μ-loop) → c .index .result < length (c .before .before .before .loop .fat)
 within c = let l = c .before .before .before .loop in
-    let g = c .before .before .before .before .before .before in
+    let g = entry (c .before .before .before) in
     below-given (length (g .args .fat .now)) (length (l .fat)) (g .args .ids .now) (l .j) (c .index .result) (g .pre) (c .before .before .loop-test .taken) (c .index .ensures) (l .inv .2)
 
 mul-fat : tie.Need-mul-fat Inv-loop μ-loop

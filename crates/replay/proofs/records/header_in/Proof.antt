@@ -5,6 +5,16 @@ use borrow.Author.Needs.{needs}
 use Rattle.replay.proofs.records.header_in.Statement.{statement}
 use Rattle.replay.proofs.records.header_in.Tie as tie
 
+-- where the first number was read, where the list was taken before it, and the function's entry
+abbrev at-dirs : tie.After-read327 → tie.After-read32
+at-dirs c = c .before .before .before .before .before .before
+
+abbrev at-list : tie.After-read327 → tie.After-take-numbers
+at-list c = at-dirs c .before .before
+
+abbrev entry : tie.After-read327 → tie.Start
+entry c = at-list c .before .before .before .before
+
 sub-take-numbers : tie.Need-sub-take-numbers
 sub-take-numbers c = search needs
 
@@ -45,15 +55,15 @@ returns : tie.Need-returns
 unfolding headerIn part
 returns c =
     λ i. record {
-      version = c .before .before .before .before .before .before .before .before .before .before .before .before .args .version;
-      dirs = c .before .before .before .before .before .before .read32 .ensures i;
+      version = entry c .args .version;
+      dirs = at-dirs c .read32 .ensures i;
       fats = c .before .before .before .before .before .read322 .ensures i;
       dir = c .before .before .before .before .read323 .ensures i;
       minifat = c .before .before .before .read324 .ensures i;
       minifats = c .before .before .read325 .ensures i;
       difat = c .before .read326 .ensures i;
       difats = c .read327 .ensures i;
-      list = c .before .before .before .before .before .before .before .before .take-numbers .ensures i;
+      list = at-list c .take-numbers .ensures i;
     }
 
 pub header-in-spec : {M : Type 1} → statement M

@@ -22,7 +22,9 @@ same-numbers-requires : tie.Need-same-numbers-requires
 same-numbers-requires c κs = search needs
 
 returns-2 : tie.Need-returns-2
-returns-2 c = λ e. header-same (c .before .before .before .before .before .before .same-fields .ensures (not-false _ (c .before .before .before .before .before .if1 .left))) (sameList-true _ _ (sym (c .same-numbers .ensures) ∙ e))
+returns-2 c =
+    let tested = c .before .before .before .before .before in
+    λ e. header-same (tested .before .same-fields .ensures (not-false _ (tested .if1 .left))) (sameList-true _ _ (sym (c .same-numbers .ensures) ∙ e))
 
 pub same-header-spec : {M : Type 1} → statement M
 same-header-spec =
