@@ -1,7 +1,7 @@
 -- What is known of a FAT that agrees with its image: it points at no sector twice, and its sectors are there. Assumes nothing.
 use Prim.Native.Nat.{ℕ, _+_, _/_, _≤_, min}
 use mathlib.Core.Path.{_≡_, refl, sym, _∙_, ap}
-use mathlib.Core.Bool.{Bool, false}
+use mathlib.Core.Bool.{false}
 use mathlib.Core.List.{List}
 use native.Mathlib.Omega.{arith}
 use native.Mathlib.Nat.{le-div-iff-mul-le}

@@ -1,8 +1,8 @@
 -- The answers of open and read, from the listing of a chain. Assumes nothing.
-use Prim.Native.Nat.{ℕ, _*_, _≤_, _<_, min}
+use Prim.Native.Nat.{ℕ, _*_, _≤_, _<_}
 use mathlib.Core.Path.{_≡_, refl, sym, _∙_, ap}
-use mathlib.Core.Bool.{Bool, true, false, not}
-use mathlib.Core.List.{List, [], _∷_, _++_}
+use mathlib.Core.Bool.{not}
+use mathlib.Core.List.{List, [], _∷_}
 use mathlib.Core.Logic.{⊎-elim, _≢_}
 use native.Mathlib.Omega.{arith}
 use borrow.Author.Tests.{eq-eqb, ne-eqb, lt-ltb, le-ltb}
@@ -15,7 +15,7 @@ use Rattle.lists.proofs.Cases.{same-or}
 use Rattle.lists.proofs.Rows.{stop, pass, append-given, append-none}
 use Rattle.alloc.specs.Opening.{Tables}
 use Rattle.alloc.specs.Opened.{padded}
-use Rattle.chain.specs.Bytes.{readCount, readBytes, ReadLeft}
+use Rattle.chain.specs.Bytes.{ReadLeft}
 use Rattle.chain.specs.declared.Walked.{Walked}
 use Rattle.chain.specs.declared.Walked.the-variants.{Listed, Refused}
 use Rattle.cfb.specs.Calls.{stateLen, agreedRows, walkRows, chainRows, chainNo, chainIds, readRows, readNo, idsLeft, toldBy, told, ChainOpens, ChainReads}
@@ -24,7 +24,6 @@ use Rattle.cfb.specs.declared.State.{State}
 use Rattle.cfb.specs.declared.Answer.{Answer}
 use Rattle.cfb.specs.declared.Answer.the-variants.{Done}
 use Rattle.cfb.specs.declared.Answer.the-variants as answers
-use Rattle.cfb.specs.declared.Called.{Called}
 
 -- the numbers of an answer that hands a walk's on
 told-walked : (k count start bytes : ℕ) → toldBy (answerFrom (walkedAs k count) start bytes) ≡ told k count start bytes

@@ -1,20 +1,17 @@
 -- A chain that is listed lies in its image, so its bytes can be read. Assumes nothing.
 use Prim.Native.Nat.{ℕ, _*_, _≤_, _<_}
 use mathlib.Core.Path.{_≡_, refl, sym, _∙_, ap}
-use mathlib.Core.Bool.{Bool, true, false, not}
-use mathlib.Core.List.{List, [], _∷_}
+use mathlib.Core.Bool.{true, false, not}
+use mathlib.Core.List.{List, []}
 use native.Mathlib.Omega.{arith}
 use borrow.Author.Tests.{not-false, eqb-false}
 use lib.Dec.{eqb}
 use lib.ListN.{length, take, length-take}
-use Rattle.lists.specs.Rows.{refusal, distinct, fresh}
+use Rattle.lists.specs.Rows.{distinct, fresh}
 use Rattle.lists.proofs.Rows.{given-none}
-use Rattle.consts.specs.Consts.{maxRegular}
-use Rattle.sectors.specs.Sectors.{Holds}
 use Rattle.alloc.specs.Opening.{Tables}
 use Rattle.agree.specs.Agree.{agreement}
 use Rattle.agree.specs.Agrees.{Agrees}
-use Rattle.chain.specs.Steps.{Once, Sectors}
 use Rattle.chain.specs.Walk.{Outcome, lists, refuses, walkOf}
 use Rattle.chain.specs.Bytes.{Lies, Readable, ReadLeft}
 use Rattle.chain.proofs.Exactly.{never-spent}

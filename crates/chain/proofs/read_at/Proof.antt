@@ -1,8 +1,7 @@
 -- The part that is lent is sector id by definition, and its bytes are copied from it.
-use Prim.Native.Nat.{_+_}
+use Prim.Native.Nat.{_+_, ℕ}
 use mathlib.Core.Path.{_∙_, ap}
 use mathlib.Core.List.{List}
-use Prim.Native.Nat.{ℕ}
 use native.Mathlib.Omega.{arith}
 use lib.ListN.{length}
 use Rattle.lists.specs.Lists.{part}

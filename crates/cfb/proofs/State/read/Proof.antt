@@ -1,9 +1,8 @@
 -- A chain that is listed lies in the image, so that its bytes are there; an offset past its end is judged before.
-use Prim.Native.Nat.{ℕ, _*_, _≤_}
-use mathlib.Core.Path.{_≡_, refl, sym, _∙_, ap}
-use mathlib.Core.List.{List}
+use Prim.Native.Nat.{ℕ}
+use mathlib.Core.Path.{_≡_, sym, _∙_, ap}
 use native.Mathlib.Omega.{arith}
-use lib.ListN.{length, take, replicate}
+use lib.ListN.{length, replicate}
 use Rattle.header.specs.Fields.{lengthOf}
 use Rattle.alloc.specs.Opening.{Tables}
 use Rattle.chain.specs.declared.Walked.the-variants.{Listed}
@@ -31,6 +30,10 @@ tables c = record { fat = begun c .args .fat .now; fats = begun c .args .fats .n
 -- the sectors' length is the state's
 length-is : (c : tie.After-sector-len) → c .sector-len .result ≡ stateLen (state (listed c))
 length-is c = c .sector-len .ensures ∙ ap lengthOf (c .before .version .ensures)
+
+-- the test of the offset, behind the read
+abbrev within : tie.After-slice-known5 → tie.Else1
+within c = c .before .before .before .before .before
 
 -- the count is that of the walk
 walked-is : (c : tie.After-sector-len) → listed c .chain-of .result ≡ Listed (c .before .before .before .walked .given .0 .0)
@@ -91,8 +94,8 @@ same-length-4 c = search needs
 
 returns-3 : tie.Need-returns-3
 returns-3 c =
-    let k = c .before .before .before .before .before .before in
-    reads-done _ _ (tables (listed k)) _ _ _ _ (listed k .chain-of .ensures) _ _ _ (walked-is k) _ _ (within-own _ (length-is k) (c .before .before .before .before .before .if1 .left)) (read-own (length-is k) (c .before .before .read .ensures))
+    let k = within c .before in
+    reads-done _ _ (tables (listed k)) _ _ _ _ (listed k .chain-of .ensures) _ _ _ (walked-is k) _ _ (within-own _ (length-is k) (within c .if1 .left)) (read-own (length-is k) (c .before .before .read .ensures))
 
 pub read-spec : {M : Type 1} → statement M
 read-spec =

@@ -1,14 +1,10 @@
 -- Each way out is that of document 01's row; what agrees can be walked, and zeros follow the ids.
-use Prim.Native.Nat.{ℕ, _≤_, _<_, min}
-use mathlib.Core.Path.{_≡_, refl, sym, _∙_, ap}
-use mathlib.Core.Bool.{Bool, true, false, not}
-use mathlib.Core.List.{List}
-use native.Mathlib.Omega.{arith}
+use Prim.Native.Nat.{ℕ, min}
+use mathlib.Core.Path.{_≡_, sym, _∙_, ap}
+use mathlib.Core.Bool.{true, false}
 use borrow.Author.Tests.{not-true, not-false}
 use lib.Dec.{ltb}
-use lib.ListN.{length, take, replicate}
-use lib.Seq.{length-take-le}
-use Rattle.header.specs.Fields.{lengthOf}
+use lib.ListN.{length, replicate}
 use Rattle.fat.specs.Lists.{roomOf}
 use Rattle.alloc.specs.Opening.{Tables, shortest}
 use Rattle.agree.specs.Agree.{agreement}
@@ -45,6 +41,16 @@ long-enough c = room-long (short-is (asked c)) (asked c .room-of .ensures) (c .b
 list-kept : (c : tie.After-agrees) → length (c .agrees .last .1 .1 .1 .1 .1 .1 .1 .1 .1 .1 .1 .0) ≡ length (begun (asked c) .args .ids .now)
 list-kept c = c .agrees .kept .1 .1 .1 .1 .1 .1 .1 .1 .1 .1 .1 .0
 
+-- the way out where it is not, and the test behind the walk
+abbrev apart : tie.After-slice-known3 → tie.After-agrees
+apart c = c .before .before .before .before .before .before .before
+
+abbrev over : tie.After-slice-known5 → tie.After-walk
+over c = c .before .before .before .before .before .before
+
+abbrev passed : tie.After-walk → tie.Else2
+passed c = c .before .before .before
+
 -- what agrees can be walked
 walkable : (c : tie.After-agrees) → c .agrees .result ≡ true → Chained (stateLen (state (asked c))) (begun (asked c) .args .image .now) (begun (asked c) .args .fat .now) (state (asked c) .sectors)
 walkable c e =
@@ -75,7 +81,7 @@ same-length c = search needs
 
 returns-2 : tie.Need-returns-2
 returns-2 c =
-    let a = c .before .before .before .before .before .before .before in
+    let a = apart c in
     listed-apart _ _ (tables (asked a)) _ _ (long-enough a) _ (sym (a .agrees .ensures) ∙ not-true _ (c .before .before .before .before .if2 .taken)) (c .before .before .fill32 .ensures ∙ ap (λ (n : ℕ). replicate n 0) (list-kept a))
 
 slice-aggregate-walk : tie.Need-slice-aggregate-walk
@@ -95,9 +101,9 @@ same-length-2 c = search needs
 
 returns-3 : tie.Need-returns-3
 returns-3 c =
-    let a = c .before .before .before .before .before .before .before .before .before .before .before .before in
-    let k = walkable a (not-false _ (c .before .before .before .before .before .before .before .before .before .if2 .left)) in
-    listed-walked _ _ (tables (asked a)) _ _ (long-enough a) (sym (a .agrees .ensures) ∙ not-false _ (c .before .before .before .before .before .before .before .before .before .if2 .left)) (k .few) (k .once) _ _ _ _ (list-kept a) (c .before .before .before .before .before .before .walk .ensures) (c .before .before .before .before .before .before .walk .kept .1 .1 .0) (c .before .before .clear-past .ensures)
+    let a = passed (over c) .before .before .before in
+    let k = walkable a (not-false _ (passed (over c) .if2 .left)) in
+    listed-walked _ _ (tables (asked a)) _ _ (long-enough a) (sym (a .agrees .ensures) ∙ not-false _ (passed (over c) .if2 .left)) (k .few) (k .once) _ _ _ _ (list-kept a) (over c .walk .ensures) (over c .walk .kept .1 .1 .0) (c .before .before .clear-past .ensures)
 
 pub chain-of-spec : {M : Type 1} → statement M
 chain-of-spec =
