@@ -91,7 +91,7 @@ impl State {
     // and DIFAT sectors, the FREE sectors ascending, and a mark for each sector that some entry points at. Refusals 1 to
     // 11 leave the tables as they were, 12 to 18 leave them zero.
     pub fn open(
-        image: &[u8],
+        image: &[u8], // never written
         used: usize,
         mode: Validation,
         fat: &mut [u32],
