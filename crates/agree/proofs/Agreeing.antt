@@ -27,7 +27,7 @@ use Rattle.agree.proofs.Listing.{refutes}
 use Rattle.agree.proofs.Lent.{wholes-true}
 
 -- sectors that an image holds are no more than its room
-holds-room : (S n len : ℕ) → Holds S n len → n ≤ most → n ≤ roomOf S len
+pub holds-room : (S n len : ℕ) → Holds S n len → n ≤ most → n ≤ roomOf S len
 unfolding roomOf sectorsIn
 holds-room S n len h few = omega (arith, few, le-div-iff-mul-le {k = S} {x = n + 1} {y = len} (omega (arith, h .entries, h .two)) .1 (h .fits))
 

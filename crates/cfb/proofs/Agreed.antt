@@ -1,10 +1,9 @@
 -- What is known of a FAT that agrees with its image: it points at no sector twice, and its sectors are there. Assumes nothing.
-use Prim.Native.Nat.{ℕ, _+_, _/_, _≤_, min}
+use Prim.Native.Nat.{ℕ, _≤_, min}
 use mathlib.Core.Path.{_≡_, refl, sym, _∙_, ap}
 use mathlib.Core.Bool.{false}
 use mathlib.Core.List.{List}
 use native.Mathlib.Omega.{arith}
-use native.Mathlib.Nat.{le-div-iff-mul-le}
 use borrow.Author.Tests.{eqb-false}
 use lib.Dec.{eqb}
 use lib.ListN.{length, take}
@@ -24,6 +23,7 @@ use Rattle.alloc.specs.Opening.{Tables, firstRows, tableRows, openRows, openNo,
 use Rattle.alloc.proofs.First.{early-held}
 use Rattle.alloc.proofs.Filled.{front-padded}
 use Rattle.agree.specs.Agrees.{Agrees}
+use Rattle.agree.proofs.Agreeing.{holds-room}
 use Rattle.chain.specs.Steps.{Once}
 use Rattle.chain.proofs.Judged.{once-judged}
 
@@ -72,13 +72,6 @@ pub record Chained (S : ℕ) (img fat : List ℕ) (sectors : ℕ) : Type 0 where
   pub once : Once (take sectors fat)
   pub room : sectors ≤ roomOf S (length img)
   pub holds : Holds S (length (take sectors fat)) (length img)
-
--- sectors that an image holds are no more than its room
-holds-room : (S n len : ℕ) → Holds S n len → n ≤ most → n ≤ roomOf S len
-unfolding roomOf sectorsIn
-holds-room S n len h few =
-    let one : n + 1 ≤ len / S = le-div-iff-mul-le {k = S} {x = n + 1} {y = len} (omega (arith, h .entries, h .two)) .1 (h .fits) in
-    omega arith
 
 -- what is said of sectors is said of equal ones
 holds-own : (S S' n n' len : ℕ) → S ≡ S' → n ≡ n' → Holds S n len → Holds S' n' len
