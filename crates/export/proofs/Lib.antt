@@ -1,4 +1,6 @@
 pub mod Naming
 pub mod Placing
 pub mod Answers
+pub mod Holding
+pub mod Giving
 pub mod Again

@@ -33,18 +33,20 @@ placed-all o n xs i e w h =
     let none : drop (o + n) (replicate {A = ℕ} (o + n) 0) ≡ [] = drop-of-length-le (replicate {A = ℕ} (o + n) 0) {i = o + n} (omega arith) in
     e ∙ rw (take-all i xs (omega arith), w, none, zeros, front) (ap (λ (r : List ℕ). replicate o 0 ++ r) (append-nil xs))
 
--- one element more of what stands behind the eight numbers
-pub taken-more : (words : List ℕ) (i : ℕ) {l : List ℕ} → l ≡ splice (replicate 109 0) 0 (take i (drop 8 words)) → length words ≡ 117 → i < 109
-    → set l i (getD words (8 + i) 0) ≡ splice (replicate 109 0) 0 (take (i + 1) (drop 8 words))
-taken-more words i e n h =
-    let rest : length (drop 8 words) ≡ 109 = length-drop 8 words ∙ rw n in
-    rw (e, ← getD-drop 8 words i 0) (copied-more (drop 8 words) (replicate 109 0) i (omega arith) (omega arith))
+-- one element more of the n that stand behind the first o
+pub taken-more : (o n : ℕ) (words : List ℕ) (i : ℕ) {l : List ℕ} → l ≡ splice (replicate n 0) 0 (take i (drop o words)) → length words ≡ o + n → i < n
+    → set l i (getD words (o + i) 0) ≡ splice (replicate n 0) 0 (take (i + 1) (drop o words))
+taken-more o n words i e m h =
+    let rest : length (drop o words) ≡ n = omega (arith, length-drop o words, m) in
+    let room : length (replicate {A = ℕ} n 0) ≡ n = length-replicate {A = ℕ} n 0 in
+    rw (e, ← getD-drop o words i 0) (copied-more (drop o words) (replicate n 0) i (omega arith) (omega arith))
 
--- all of what stands behind the eight numbers
-pub taken-list : (words : List ℕ) (i : ℕ) {l : List ℕ} → l ≡ splice (replicate 109 0) 0 (take i (drop 8 words)) → length words ≡ 117 → 109 ≤ i → l ≡ drop 8 words
-taken-list words i e n h =
-    let rest : length (drop 8 words) ≡ 109 = length-drop 8 words ∙ rw n in
-    e ∙ rw (take-all i (drop 8 words) (omega arith)) (splice-whole (replicate 109 0) (drop 8 words) rest)
+-- all of what stands behind the first o
+pub taken-list : (o n : ℕ) (words : List ℕ) (i : ℕ) {l : List ℕ} → l ≡ splice (replicate n 0) 0 (take i (drop o words)) → length words ≡ o + n → n ≤ i → l ≡ drop o words
+taken-list o n words i e m h =
+    let rest : length (drop o words) ≡ n = omega (arith, length-drop o words, m) in
+    let same : length (drop o words) ≡ length (replicate {A = ℕ} n 0) = rest ∙ sym (length-replicate {A = ℕ} n 0) in
+    e ∙ rw (take-all i (drop o words) (omega arith)) (splice-whole (replicate n 0) (drop o words) same)
 
 -- eight numbers put over the zeros before a list are the words of a header
 pub words-stored : (h : Header) {words : List ℕ} {major : ℕ} → words ≡ replicate 8 0 ++ h .list → major ≡ majorOf (h .version)

@@ -3,6 +3,7 @@
 mod items;
 mod layout;
 mod states;
+mod told;
 
 use cfb::State;
 use header::Header;
@@ -16,7 +17,11 @@ use items::number_of_kind;
 use layout::header_with;
 use layout::mode_of;
 use layout::words_of;
+use states::holds_state;
+use states::state_in;
 use states::words_of_state;
+use told::number_of_answer;
+use told::words_of_answer;
 ghost use mathlib.Core.Path.{_≡_};
 ghost use lib.ListN.{length};
 ghost use Rattle.consts.specs.Kinds.{kindOf};
@@ -25,6 +30,7 @@ ghost use Rattle.header.specs.Read.{readNo};
 ghost use Rattle.export.specs.Items.{kindNumber, itemNumber, itemNumbers, namedOf, namedText};
 ghost use Rattle.export.specs.Layout.{modeOf, wordsOf, headerLeft, writtenNo, bytesLeft};
 ghost use Rattle.export.specs.States.{OpenGives};
+ghost use Rattle.export.specs.Chains.{OpenChainGives, ReadChainGives};
 
 // Reads a header: 0, or the number of the refusal; `words` then hold the header, or what stands beside the refusal. Mode 0 is permissive.
 #[no_mangle]
@@ -77,6 +83,79 @@ pub extern "C" fn rasuvelk_open(
     *state = held;
     let verdict = opened.verdict;
     verdict.number()
+}
+
+// Opens a chain from `start` on: 0, or the number of the refusal; `answer` then holds how many ids, the start and 0, or zeros, and `ids` what the call leaves in it. Words that hold no state are refused by 19 before anything else, and `ids` are zeros then.
+#[no_mangle]
+pub extern "C" fn rasuvelk_open_chain(
+    state: &[u64; 121],
+    image: &[u8],
+    fat: &[u32],
+    fats: &[u32],
+    difats: &[u32],
+    frees: &[u32],
+    marks: &[u8],
+    ids: &mut [u32],
+    start: u32,
+    answer: &mut [u64; 3],
+) -> u32
+    ensures { λ r. ⌜ OpenChainGives (now (state .entry)) (now (image .entry)) (record { fat = now (fat .entry); fats = now (fats .entry); difats = now (difats .entry); frees = now (frees .entry); marks = now (marks .entry) }) (now (ids .entry)) start r (now (answer .exit)) (now (state .exit)) (now (image .exit)) (record { fat = now (fat .exit); fats = now (fats .exit); difats = now (difats .exit); frees = now (frees .exit); marks = now (marks .exit) }) (now (ids .exit)) ⌝ }
+{
+    let lent = *state;
+    if !holds_state(lent) {
+        words::fill32(ids, 0);
+        *answer = [0u64; 3];
+        return 19;
+    }
+    let held = state_in(lent);
+    let called = held.open_chain(image, fat, fats, difats, frees, marks, ids, start);
+    let told = called.answer;
+    let numbers = words_of_answer(told);
+    *answer = numbers;
+    number_of_answer(told)
+}
+
+// Reads a chain from byte `offset` on into the front of `buf`: 0, or the number of the refusal, which leaves `buf`; `answer` then holds how many ids, the start and how many bytes were read, or zeros. Words that hold no state are refused by 19 as above.
+#[no_mangle]
+pub extern "C" fn rasuvelk_read_chain(
+    state: &[u64; 121],
+    image: &[u8],
+    fat: &[u32],
+    fats: &[u32],
+    difats: &[u32],
+    frees: &[u32],
+    marks: &[u8],
+    ids: &mut [u32],
+    start: u32,
+    offset: u64,
+    buf: &mut [u8],
+    answer: &mut [u64; 3],
+) -> u32
+    ensures { λ r. ⌜ ReadChainGives (now (state .entry)) (now (image .entry)) (record { fat = now (fat .entry); fats = now (fats .entry); difats = now (difats .entry); frees = now (frees .entry); marks = now (marks .entry) }) (now (ids .entry)) start offset (now (buf .entry)) r (now (answer .exit)) (now (state .exit)) (now (image .exit)) (record { fat = now (fat .exit); fats = now (fats .exit); difats = now (difats .exit); frees = now (frees .exit); marks = now (marks .exit) }) (now (ids .exit)) (now (buf .exit)) ⌝ }
+{
+    let lent = *state;
+    if !holds_state(lent) {
+        words::fill32(ids, 0);
+        *answer = [0u64; 3];
+        return 19;
+    }
+    let held = state_in(lent);
+    let called = held.read(
+        image,
+        fat,
+        fats,
+        difats,
+        frees,
+        marks,
+        ids,
+        start,
+        offset,
+        buf,
+    );
+    let told = called.answer;
+    let numbers = words_of_answer(told);
+    *answer = numbers;
+    number_of_answer(told)
 }
 
 // The kind of an entry: 0 regular, 1 reserved, 2 DIFAT, 3 FAT, 4 END, 5 FREE.

@@ -44,13 +44,13 @@ loop-again c =
     let turn = c .before .loop in
     let words = c .before .before .args .t1 in
     let whole : length words ≡ 117 = c .before .before .good .0 .1 .0 .1 in
-    (omega arith, taken-more words (turn .i) (turn .inv .1) whole (omega arith))
+    (omega arith, taken-more 8 109 words (turn .i) (turn .inv .1) whole (omega arith))
 
 returns : tie.Need-returns Inv-loop μ-loop
 returns c =
     let words = c .before .before .args .t1 in
     let whole : length words ≡ 117 = c .before .before .good .0 .1 .0 .1 in
-    taken-list words (c .before .loop .i) (c .before .loop .inv .1) whole (omega arith)
+    taken-list 8 109 words (c .before .loop .i) (c .before .loop .inv .1) whole (omega arith)
 
 pub list-from-spec : {M : Type 1} → statement M
 list-from-spec =
