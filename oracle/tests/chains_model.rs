@@ -446,3 +446,59 @@ fn at_any_place() {
     });
     eprintln!("{compared}");
 }
+
+/// Counts up through every word of these digits.
+fn words(digits: &[&[u32]], see: &mut impl FnMut(&[u32])) {
+    let count = digits.iter().map(|digits| digits.len()).product();
+    let mut word = vec![0; digits.len()];
+    for mut number in 0..count {
+        for (letter, digits) in word.iter_mut().zip(digits) {
+            *letter = digits[number % digits.len()];
+            number /= digits.len();
+        }
+        see(&word);
+    }
+}
+
+/// All tables and counts of the FREE sectors that these digits make, each lent with the image: how many are accepted.
+fn every_table(tally: &mut Tally, opened: &Opened, digits: &[&[u32]]) -> u64 {
+    let n = opened.n();
+    let (mut accepted, mut round) = (0, 0);
+    words(digits, &mut |word| {
+        let (mut state, mut tables) = (opened.state, Tables::zero([n; 5]));
+        let parts: Vec<&[u32]> = word[1..].chunks(n).collect();
+        state[abi::FREES] = word[0].into();
+        let all = [&mut tables.fat, &mut tables.fats, &mut tables.difats, &mut tables.frees];
+        all.into_iter().zip(&parts).for_each(|(table, part)| table.copy_from_slice(part));
+        tables.marks = parts[4].iter().map(|&mark| mark as u8).collect();
+        let lent = Lent { state: &state, image: opened.image, tables: &tables };
+        accepted += u64::from(tampered(tally, opened, lent, &mut round) != 19);
+    });
+    accepted
+}
+
+/// Every content of the tables of images with two sectors, from small alphabets: one is accepted. With two free sectors
+/// it is two.
+#[test]
+fn every_content_of_the_tables() {
+    let mut tally = Tally::default();
+    let (entries, bits) = ([0, 1, 2, END, FREE, FAT], [0, 1]);
+    let (entry, bit): (&[u32], &[u32]) = (&entries, &bits);
+    let mut digits = vec![bit, entry, entry];
+    digits.extend([bit; 8]);
+    for fat in [[FAT, END], [FAT, FREE], [FAT, 0], [FAT, 1], [FAT, FAT]] {
+        let image = Layout::small(&fat).bytes();
+        for mode in [0, 1] {
+            let opened = Opened::of(&Case { image: &image, used: 1536, mode, lengths: [2; 5] }).unwrap();
+            assert_eq!(every_table(&mut tally, &opened, &digits), 1);
+        }
+    }
+    assert_eq!(tally.compared(), 2 * 5 * 2 * 36 * 256);
+    let image = Layout::small(&[FAT, FREE, FREE]).bytes();
+    let opened = Opened::of(&Case { image: &image, used: 2048, mode: 1, lengths: [3; 5] }).unwrap();
+    let (entry, id): (&[u32], &[u32]) = (&[2, FREE, FAT], &[0, 1, 2]);
+    let mut digits = vec![&[1, 2, 3][..], entry, entry, entry, bit, &[0], bit, bit, &[0], &[0]];
+    digits.extend([id, id, id, bit, bit, bit]);
+    assert_eq!(every_table(&mut tally, &opened, &digits), 2);
+    eprintln!("{tally:?}");
+}
