@@ -4,6 +4,7 @@
 //! the Rust does instead.
 #![cfg(oracle)]
 
+use oracle::called::Call;
 use oracle::calls::{self, Opened};
 use oracle::chained::{self, Tally};
 use oracle::held::Case;
@@ -13,7 +14,7 @@ use oracle::openings;
 use oracle::random::Random;
 
 /// Shows the calls of one image that opens.
-fn hold(opened: &Opened, tally: &mut Tally, show: impl FnOnce(&mut dyn FnMut(&oracle::called::Call))) {
+fn hold(opened: &Opened, tally: &mut Tally, show: impl FnOnce(&mut dyn FnMut(&Call))) {
     let mut rust = chained::rusts(opened);
     show(&mut |call| tally.see(&mut rust, call));
 }
@@ -29,7 +30,7 @@ fn cases() {
             opened.every_read(9, &mut see);
         });
     });
-    eprintln!("{tally:?}");
+    assert_eq!([0, 20, 21, 22, 23].map(|number| tally.answers[number]), [340, 90, 26, 0, 518]);
 }
 
 /// Every image of few sectors that opens, from every sector.
@@ -41,7 +42,8 @@ fn every_small_image() {
             hold(&opened, &mut tally, |mut see| opened.each_start(&mut see));
         }
     });
-    eprintln!("{tally:?}");
+    assert_eq!([0, 20, 21, 22].map(|number| tally.answers[number]), [93_222, 130_146, 103_862, 14_308]);
+    assert_eq!(tally.compared(), 341_538);
 }
 
 /// Every read of images of up to 3 sectors.
@@ -61,7 +63,9 @@ fn every_small_read() {
         openings::every_fat(3, n, 0, &mut see);
     }
     openings::every_fat(4, 2, 1, &mut see);
-    eprintln!("{tally:?}");
+    let expected = [20_933, 40_172, 6_896, 792, 82_940];
+    assert_eq!([0, 20, 21, 22, 23].map(|number| tally.answers[number]), expected);
+    assert_eq!((tally.compared(), tally.bytes), (151_733, 3_943_566));
 }
 
 /// Chains, one long chain, loops, stray marks, chains into the tables' own sectors: every start, every edge.
@@ -73,10 +77,10 @@ fn images() {
     calls::images(&mut random, &third, &[0, 1, 2, 3, 5, 8], &mut |opened| {
         hold(opened, &mut tally, |mut see| {
             opened.every_start(300, &mut see);
-            opened.every_read(8, &mut see);
+            opened.every_read(if opened.n() < 100 { 8 } else { 5 }, &mut see);
         });
     });
-    eprintln!("{tally:?}");
+    assert!(tally.compared() > 60_000, "{tally:?}");
     tally.has([0, 20, 21, 22, 23], 200);
 }
 
@@ -95,7 +99,7 @@ fn broken_images() {
     };
     openings::broken(&mut Random::new("chains broken"), 5_000, &mut see);
     openings::random(&mut Random::new("chains random"), 5_000, &mut see);
-    eprintln!("{tally:?}");
+    assert!(tally.compared() > 90_000, "{tally:?}");
     tally.has([0, 20, 21, 22, 23], 200);
 }
 
@@ -111,5 +115,6 @@ fn long_images() {
             opened.some_reads(&mut more, 4, &mut see);
         });
     });
-    eprintln!("{tally:?}");
+    tally.has([0, 20, 21], 20);
+    assert!(tally.bytes > 1_000_000, "{tally:?}");
 }

@@ -92,7 +92,8 @@ fn every_small_image() {
     for n in 0..=2 {
         (0..n.max(1)).for_each(|place| openings::every_fat(4, n, place, &mut see));
     }
-    eprintln!("{tally:?}");
+    assert_eq!([0, 20, 21, 22].map(|number| tally.0[number]), [4_706, 30_206, 5_296, 622]);
+    assert_eq!(tally.compared(), 40_830);
 }
 
 /// Every read of images of up to 2 sectors, and of some with more.
@@ -110,7 +111,7 @@ fn every_read() {
     calls::images(&mut random, &[3, 4, 5, 6, 9, 12], &[1, 2, 4, 7], &mut |opened| {
         opened.every_read(6, &mut |call| _ = tally.see(call));
     });
-    eprintln!("{tally:?}");
+    assert!(tally.compared() > 30_000, "{tally:?}");
     tally.has([0, 20, 21, 22, 23], 100);
 }
 
@@ -124,7 +125,7 @@ fn images() {
         opened.every_start(300, &mut |call| _ = tally.see(call));
         opened.some_reads(&mut more, 30, &mut |call| _ = tally.see(call));
     });
-    eprintln!("{tally:?}");
+    assert!(tally.compared() > 20_000, "{tally:?}");
     tally.has([0, 20, 21, 22, 23], 200);
 }
 
@@ -141,7 +142,7 @@ fn broken_images() {
     };
     openings::broken(&mut Random::new("model broken chains"), 4_000, &mut see);
     openings::random(&mut Random::new("model random chains"), 4_000, &mut see);
-    eprintln!("{tally:?}");
+    assert!(tally.compared() > 80_000, "{tally:?}");
     tally.has([0, 20, 21, 22, 23], 200);
 }
 
@@ -155,7 +156,6 @@ fn long_images() {
         opened.every_start(4, &mut |call| _ = tally.see(call));
         opened.some_reads(&mut more, 3, &mut |call| _ = tally.see(call));
     });
-    eprintln!("{tally:?}");
     tally.has([0, 20, 21], 10);
 }
 
@@ -169,11 +169,14 @@ fn tampered(tally: &mut Tally, opened: &Opened, lent: Lent, round: &mut usize) -
     tally.see(&Call { lent, ids: &ids, start, read })
 }
 
-/// Images whose states and tables are changed: all kinds, short ones, around 128 sectors, and of both versions.
+/// Images whose states and tables are changed: Q, one that is free but for its FAT sector, and all kinds of short ones,
+/// around 128 sectors, and of both versions.
 fn to_tamper_with(name: &str, see: &mut impl FnMut(&Opened)) {
     let (image, lengths) = q();
+    let free = Layout::plain(3, 20).bytes();
     for mode in [0, 1] {
         see(&Opened::of(&Case { image: &image, used: 512 * 7, mode, lengths }).unwrap());
+        see(&Opened::of(&Case { image: &free, used: 512 * 21, mode, lengths: [21; 5] }).unwrap());
     }
     calls::images(&mut Random::new(name), &[0, 1, 2, 3, 5, 9, 14, 129], &[0, 1, 3, 6], see);
 }
@@ -199,7 +202,7 @@ fn every_word_of_the_state() {
             }
         });
     });
-    eprintln!("{tally:?} {modes:?} {rooms}");
+    assert!(tally.0[19] > 50_000 && modes[0] > 20 && modes[1] > 0 && rooms > 10, "{tally:?} {modes:?} {rooms}");
 }
 
 /// 19: every element of every table, changed alone, those past its count and past the room too.
@@ -211,7 +214,7 @@ fn every_element_of_the_tables() {
             assert_eq!(tampered(&mut tally, opened, Lent { tables, ..opened.lent() }, &mut round), 19);
         });
     });
-    eprintln!("{tally:?}");
+    assert!(tally.0[19] > 40_000, "{tally:?}");
 }
 
 /// Two elements of a table changed places: 19, but where they are two of the free list, which may have any order.
@@ -225,7 +228,7 @@ fn every_swap() {
             frees += u64::from(free);
         });
     });
-    eprintln!("{tally:?} {frees}");
+    assert!(tally.0[19] > 1_000 && frees > 200, "{tally:?} {frees}");
 }
 
 /// 19: a free list that is not the FREE sectors, once each and no other.
@@ -237,7 +240,7 @@ fn free_lists() {
             assert_eq!(tampered(&mut tally, opened, Lent { tables, ..opened.lent() }, &mut round), 19);
         });
     });
-    eprintln!("{tally:?}");
+    assert!(tally.0[19] > 500, "{tally:?}");
 }
 
 /// A free list in any order: the answer is that of the ascending one.
@@ -263,8 +266,8 @@ fn permuted_free_lists() {
             assert!(called::ask(&call) == called::ask(&first));
         }
     });
-    eprintln!("{tally:?}");
     assert_eq!(tally.0[19], 0);
+    assert!(tally.compared() > 250, "{tally:?}");
 }
 
 /// The first elements, the last and some between of long tables, changed alone.
@@ -281,7 +284,7 @@ fn long_tables() {
     tamper::free_lists(&opened, 4, &mut |tables| {
         assert_eq!(tampered(&mut tally, &opened, Lent { tables, ..opened.lent() }, &mut round), 19);
     });
-    eprintln!("{tally:?}");
+    assert!(tally.0[19] > 250, "{tally:?}");
 }
 
 /// Q after every change of a byte of its header and FAT, with the tables from before: 19, or the byte has no part in them.
@@ -312,7 +315,7 @@ fn every_byte_of_the_image() {
         }
         assert_eq!(unseen, expected);
     }
-    eprintln!("{tally:?}");
+    assert_eq!((tally.compared(), tally.0[0], tally.0[19]), (6_184, 209, 5_975));
 }
 
 /// State, image and tables of three openings of images as long: only those of one go together.
@@ -333,7 +336,8 @@ fn mixed() {
         let lent = Lent { state: &one.state, image: two.image, tables: &three.tables };
         tally.see(&Call { lent, ..a.call(random.below(4) as u32, None) });
     }
-    eprintln!("{} {tally:?}", all.len());
+    assert_eq!((all.len(), tally.compared()), (804, 60_000));
+    tally.has([0, 19, 20, 21, 22], 500);
 }
 
 /// Six lengths around the room, for the tables and the id list together.
@@ -358,8 +362,7 @@ fn every_length() {
             assert_eq!(number == 11, lengths.iter().any(|&length| length < room));
         }
     }
-    eprintln!("{tally:?}");
-    assert_eq!(tally.0[19], 0);
+    assert_eq!((tally.compared(), tally.0[11], tally.0[19]), (52_429, 48_055, 0));
 }
 
 /// The tables cut or with zeros after them.
@@ -395,7 +398,7 @@ fn lent_lengths() {
             }
         }
     }
-    eprintln!("{tally:?}");
+    assert_eq!((tally.compared(), tally.0[11], tally.0[19]), (591, 174, 192));
 }
 
 /// Words that are no state are 19 before 11, and the ids are zero then.
@@ -444,7 +447,7 @@ fn at_any_place() {
             }
         }
     });
-    eprintln!("{compared}");
+    assert!(compared > 4_000, "{compared}");
 }
 
 /// Counts up through every word of these digits.
@@ -500,5 +503,5 @@ fn every_content_of_the_tables() {
     let mut digits = vec![&[1, 2, 3][..], entry, entry, entry, bit, &[0], bit, bit, &[0], &[0]];
     digits.extend([id, id, id, bit, bit, bit]);
     assert_eq!(every_table(&mut tally, &opened, &digits), 2);
-    eprintln!("{tally:?}");
+    assert_eq!((tally.compared(), tally.0[19]), (324_288, 324_276));
 }
