@@ -111,15 +111,16 @@ impl<'a> Opened<'a> {
         self.starts(most).into_iter().for_each(|start| see(&self.call(start, None)));
     }
 
-    /// Reads the chain from every start, at every offset, into every buffer: of at most so many starts and edges.
-    pub fn every_read(&self, most: usize, see: &mut impl FnMut(&Call)) {
-        for start in self.starts(most) {
+    /// Reads the chain from every start, at every offset, into every buffer: of at most so many starts below n, and around
+    /// so many edges of sectors.
+    pub fn every_read(&self, starts: usize, edges: usize, see: &mut impl FnMut(&Call)) {
+        for start in self.starts(starts) {
             let Some(sectors) = self.listed(start) else {
                 let reads = [(0, 0), (0, 600), (512, 1), (u64::MAX, 1)];
                 reads.into_iter().for_each(|read| see(&self.call(start, Some(read))));
                 continue;
             };
-            for offset in self.offsets(sectors, most) {
+            for offset in self.offsets(sectors, edges) {
                 for buffer in self.buffers(sectors, offset) {
                     see(&self.call(start, Some((offset, buffer))));
                 }

@@ -27,7 +27,7 @@ fn cases() {
         let opened = Opened::of(case).unwrap();
         hold(&opened, &mut tally, |mut see| {
             [1, 2, 4, 6, END].into_iter().for_each(|start| see(&opened.call(start, None)));
-            opened.every_read(9, &mut see);
+            opened.every_read(9, 9, &mut see);
         });
     });
     assert_eq!([0, 20, 21, 22, 23].map(|number| tally.answers[number]), [340, 90, 26, 0, 518]);
@@ -55,7 +55,7 @@ fn every_small_read() {
         if let Some(opened) = Opened::of(case) {
             let strict = Opened::of(&Case { mode: 1, ..*case });
             if case.mode == 0 || strict.is_none_or(|strict| strict.tables != opened.tables) {
-                hold(&opened, &mut tally, |mut see| opened.every_read(9, &mut see));
+                hold(&opened, &mut tally, |mut see| opened.every_read(9, 9, &mut see));
             }
         }
     };
@@ -77,7 +77,8 @@ fn images() {
     calls::images(&mut random, &third, &[0, 1, 2, 3, 5, 8], &mut |opened| {
         hold(opened, &mut tally, |mut see| {
             opened.every_start(300, &mut see);
-            opened.every_read(if opened.n() < 100 { 8 } else { 5 }, &mut see);
+            let (starts, edges) = if opened.n() < 100 { (5, 24) } else { (4, 6) };
+            opened.every_read(starts, edges, &mut see);
         });
     });
     assert!(tally.compared() > 60_000, "{tally:?}");

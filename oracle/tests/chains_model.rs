@@ -4,7 +4,7 @@ use oracle::abi::{self, Lent, Tables};
 use oracle::called::{self, Call};
 use oracle::calls::{self, scratch, Opened};
 use oracle::held::Case;
-use oracle::inputs::{END, FREE};
+use oracle::inputs::{put32, END, FREE};
 use oracle::layout::{Layout, FAT};
 use oracle::openings::{self, room};
 use oracle::random::Random;
@@ -103,13 +103,13 @@ fn every_read() {
     for (n, place) in [(0, 0), (1, 0), (2, 0), (2, 1)] {
         openings::every_fat(3, n, place, &mut |case| {
             if let Some(opened) = Opened::of(case) {
-                opened.every_read(9, &mut |call| _ = tally.see(call));
+                opened.every_read(9, 9, &mut |call| _ = tally.see(call));
             }
         });
     }
     let mut random = Random::new("model reads");
     calls::images(&mut random, &[3, 4, 5, 6, 9, 12], &[1, 2, 4, 7], &mut |opened| {
-        opened.every_read(6, &mut |call| _ = tally.see(call));
+        opened.every_read(5, 16, &mut |call| _ = tally.see(call));
     });
     assert!(tally.compared() > 30_000, "{tally:?}");
     tally.has([0, 20, 21, 22, 23], 100);
@@ -192,6 +192,10 @@ fn every_word_of_the_state() {
             let flipped = place == abi::MODE && state[place] < 2;
             let shorter = place == abi::HEADER && (state[place], opened.length()) == (3, 4096);
             if flipped {
+                // Where both openings accept, they give the same tables.
+                let (used, mode) = (state[abi::USED] as usize, state[abi::MODE] as u32);
+                let case = Case { image: opened.image, used, mode, lengths: opened.tables.lengths() };
+                assert_eq!(number == 19, Opened::of(&case).is_none());
                 modes[usize::from(number == 19)] += 1;
             } else if shorter {
                 let short = room(3, opened.image.len()) > opened.ids.len();
@@ -203,6 +207,26 @@ fn every_word_of_the_state() {
         });
     });
     assert!(tally.0[19] > 50_000 && modes[0] > 20 && modes[1] > 0 && rooms > 10, "{tally:?} {modes:?} {rooms}");
+}
+
+/// A flipped mode is a matter of agreement: Q opens in both; three others only in the permissive one.
+#[test]
+fn flipped_modes() {
+    let flipped = |image: &[u8], mode: u32| {
+        let mut opened = Opened::of(&Case { image, used: image.len(), mode, lengths: [6; 5] }).unwrap();
+        opened.state[abi::MODE] = u64::from(1 - mode);
+        let outcome = called::same(&opened.call(1, None));
+        (outcome.number, outcome.answer)
+    };
+    let layout = Layout::q();
+    let image = layout.bytes();
+    assert_eq!([flipped(&image, 0), flipped(&image, 1)], [(0, [3, 1, 0]); 2]);
+    // Directory sectors in version 3, no mark of the FAT sector, a pointer past the end.
+    for (at, number) in [(40, 1), (layout.entry_at(0), END), (layout.entry_at(3), 6)] {
+        let mut image = image.clone();
+        put32(&mut image, at, number);
+        assert_eq!(flipped(&image, 0), (19, [0; 3]));
+    }
 }
 
 /// 19: every element of every table, changed alone, those past its count and past the room too.
@@ -270,7 +294,7 @@ fn permuted_free_lists() {
     assert!(tally.compared() > 250, "{tally:?}");
 }
 
-/// The first elements, the last and some between of long tables, changed alone.
+/// The first elements, the last and some between of long tables, changed alone; and every word of their state.
 #[test]
 fn long_tables() {
     let (mut tally, mut round) = (Tally::default(), 0);
@@ -284,7 +308,11 @@ fn long_tables() {
     tamper::free_lists(&opened, 4, &mut |tables| {
         assert_eq!(tampered(&mut tally, &opened, Lent { tables, ..opened.lent() }, &mut round), 19);
     });
-    assert!(tally.0[19] > 250, "{tally:?}");
+    tamper::states(&opened, &mut |place, state| {
+        let number = tampered(&mut tally, &opened, Lent { state, ..opened.lent() }, &mut round);
+        assert_eq!(number == 19, place != abi::MODE || state[place] > 1);
+    });
+    assert!(tally.0[19] > 900, "{tally:?}");
 }
 
 /// Q after every change of a byte of its header and FAT, with the tables from before: 19, or the byte has no part in them.
