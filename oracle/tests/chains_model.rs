@@ -1,6 +1,6 @@
 //! The calls that read a chain against the model, with no Rust at hand: number, answer, id list and buffer to their ends.
 
-use oracle::abi::{self, Lent, Tables};
+use oracle::abi::{self, Lent, State, Tables};
 use oracle::called::{self, Call};
 use oracle::calls::{self, scratch, Opened};
 use oracle::held::Case;
@@ -429,33 +429,48 @@ fn lent_lengths() {
     assert_eq!((tally.compared(), tally.0[11], tally.0[19]), (591, 174, 192));
 }
 
-/// Words that are no state are 19 before 11, and the ids are zero then.
+/// Words that are no state: each with a version, a mode or a number of the header that there is not.
+fn no_states(state: &State, see: &mut impl FnMut(&State)) {
+    let [mode, version] = [abi::MODE, abi::HEADER + abi::VERSION];
+    let modes = [2, 1 << 32, u64::MAX].map(|word| (mode, word));
+    let versions = [0, 2, 5, 3 + (1 << 32), 4 + (1 << 32)].map(|word| (version, word));
+    let headers = (abi::HEADER..121).flat_map(|place| [1 << 32, u64::MAX].map(|more| (place, state[place] | more)));
+    for (place, word) in modes.into_iter().chain(versions).chain(headers) {
+        let mut state = *state;
+        state[place] = word;
+        see(&state);
+    }
+}
+
+/// Words that are no state are 19 before 11, and the ids are zero then. The image has room by either sector length.
 #[test]
 fn no_state() {
     let mut compared = 0;
-    let image = Layout::small(&[FAT, END]).bytes();
-    let opened = Opened::of(&Case { image: &image, used: 1536, mode: 1, lengths: [2; 5] }).unwrap();
     let none = Tables::zero([0; 5]);
-    for (place, word) in [(0, 2), (0, u64::MAX), (0, 1 << 32), (4, 0), (4, 5), (4, 3 + (1 << 32)), (4, u64::MAX)]
-        .into_iter()
-        .chain((4..121).flat_map(|place| [1 << 32, u64::MAX].map(|more| (place, opened.state[place] | more))))
-    {
-        let mut state = opened.state;
-        state[place] = word;
-        for tables in [&none, &opened.tables] {
-            for ids in [&[][..], &[7], &[8, 9], &[8, 9, 10]] {
-                let call = Call { lent: Lent { state: &state, image: &image, tables }, ids, ..opened.call(1, None) };
-                assert_eq!(called::same(&call).number, 19);
-                assert_eq!(called::same(&Call { read: Some((0, 9)), ..call }).number, 19);
-                compared += 2;
+    for version in [3, 4] {
+        let mut image = Layout::plain(version, 2).bytes();
+        let used = image.len();
+        image.resize(9 * 4096, 0);
+        let room = room(version, image.len());
+        let opened = Opened::of(&Case { image: &image, used, mode: 1, lengths: [room; 5] }).unwrap();
+        no_states(&opened.state, &mut |state| {
+            for tables in [&none, &opened.tables] {
+                for ids in [&[][..], &[7], &opened.ids] {
+                    let lent = Lent { state, image: &image, tables };
+                    for read in [None, Some((0, 9))] {
+                        assert_eq!(called::same(&Call { lent, ids, start: END, read }).number, 19);
+                        compared += 1;
+                    }
+                }
             }
-        }
+        });
+        // Of a state the lengths are asked first.
+        let call = opened.call(END, None);
+        assert_eq!(called::same(&call).number, 0);
+        assert_eq!(called::same(&Call { lent: Lent { tables: &none, ..call.lent }, ..call }).number, 11);
+        assert_eq!(called::same(&Call { ids: &[7], ..call }).number, 11);
     }
-    // A state is asked for the lengths first.
-    let call = Call { lent: Lent { tables: &none, ..opened.lent() }, ..opened.call(1, None) };
-    assert_eq!(called::same(&call).number, 11);
-    assert_eq!(called::same(&Call { ids: &[7], ..opened.call(1, None) }).number, 11);
-    assert_eq!(compared, 16 * (7 + 117 * 2));
+    assert_eq!(compared, 2 * 12 * (3 + 5 + 117 * 2));
 }
 
 /// Image and buffer may begin at any place: each from 0 to 15 in a longer one.
