@@ -113,7 +113,7 @@ pub fn swapped(opened: &Opened, most: usize, see: &mut impl FnMut(bool, &Tables)
 }
 
 /// Shows free lists that are not the FREE sectors once each: one named twice for another, which stands behind the count
-/// or nowhere; one that is not free; one too few, one too many.
+/// or nowhere; one named for its two neighbours as well, with the same sum; one too few, one too many.
 pub fn free_lists(opened: &Opened, most: usize, see: &mut impl FnMut(&Tables)) {
     let count = opened.state[abi::FREES] as usize;
     let places = damage::some(count, most);
@@ -123,6 +123,14 @@ pub fn free_lists(opened: &Opened, most: usize, see: &mut impl FnMut(&Tables)) {
         see(&tables);
         if let Some(behind) = tables.frees.get_mut(count) {
             *behind = opened.tables.frees[i];
+            see(&tables);
+        }
+    }
+    for i in places.iter().copied().filter(|i| i + 2 < count) {
+        let three = &opened.tables.frees[i..i + 3];
+        if three[1] == three[0] + 1 && three[2] == three[1] + 1 {
+            let mut tables = opened.tables.clone();
+            tables.frees[i..i + 3].fill(three[1]);
             see(&tables);
         }
     }
