@@ -429,6 +429,44 @@ fn lent_lengths() {
     assert_eq!((tally.compared(), tally.0[11], tally.0[19]), (591, 174, 192));
 }
 
+/// The room goes by the version that the state says: by 3 for 4 it is longer, by 4 for 3 shorter; then it is 19.
+#[test]
+fn other_version() {
+    for (version, other, lengths) in [(4, 3, [(23, 19), (22, 11)]), (3, 4, [(2, 19), (1, 11)])] {
+        let mut image = Layout::plain(version, 2).bytes();
+        let used = image.len();
+        let mut opened = Opened::of(&Case { image: &image, used, mode: 1, lengths: [2; 5] }).unwrap();
+        let (mut state, tables) = (opened.state, opened.tables.clone());
+        image.resize(3 * 4096, 0);
+        state[abi::HEADER + abi::VERSION] = other;
+        opened = Opened { image: &image, state, tables, ids: vec![] };
+        for (length, number) in lengths {
+            opened.tables = resized(&opened.tables, &[length; 5]);
+            opened.ids = scratch(0, length);
+            assert_eq!(called::same(&opened.call(END, None)).number, number);
+        }
+    }
+}
+
+/// An image lent with more than 16,384 sectors after the header's: that many are its room.
+#[test]
+fn long_lent() {
+    let mut image = Layout::q().bytes();
+    for (sectors, room) in [(16_384, 16_383), (16_385, 16_384), (16_386, 16_384), (16_400, 16_384)] {
+        image.resize(512 * sectors, 0);
+        let opened = Opened::of(&Case { image: &image, used: 512 * 7, mode: 1, lengths: [room; 5] }).unwrap();
+        assert_eq!(called::same(&opened.call(1, Some((0, 2000)))).answer, [3, 1, 1536]);
+        for table in 0..6 {
+            let mut lengths = [room; 6];
+            lengths[table] -= 1;
+            let tables = resized(&opened.tables, &lengths);
+            let lent = Lent { tables: &tables, ..opened.lent() };
+            let call = Call { lent, ids: &opened.ids[..lengths[5]], ..opened.call(1, None) };
+            assert_eq!(called::same(&call).number, 11);
+        }
+    }
+}
+
 /// Words that are no state: each with a version, a mode or a number of the header that there is not.
 fn no_states(state: &State, see: &mut impl FnMut(&State)) {
     let [mode, version] = [abi::MODE, abi::HEADER + abi::VERSION];
