@@ -60,7 +60,8 @@ fn cases() {
             assert_eq!(sector, [0xa1 + i as u8; 512]);
         }
         assert_eq!([read(1536, 1).answer, read(1535, 7).answer], [[3, 1, 0], [3, 1, 1]]);
-        assert_eq!([read(1537, 0).number, read(1537, 1).number, read(u64::MAX, 1).number], [23; 3]);
+        assert_eq!([0, 1].map(|length| read(1537, length).number), [23; 2]);
+        assert_eq!([1 << 32, 1 << 63, u64::MAX].map(|offset| read(offset, 1).number), [23; 3]);
     }
 }
 
