@@ -84,6 +84,17 @@ impl Tables {
     }
 }
 
+/// What every call on a chain is lent to look at: the state, the image, the tables.
+#[derive(Clone, Copy)]
+pub struct Lent<'a> {
+    pub state: &'a State,
+    pub image: &'a [u8],
+    pub tables: &'a Tables,
+}
+
+/// What a call on a chain answers: how many ids there are, the start, how many bytes were read.
+pub type Answer = [u64; 3];
+
 /// Kinds of an item of `prettify`.
 pub const NONE: u32 = 0;
 pub const FREE: u32 = 1;
@@ -93,14 +104,14 @@ pub const DIFAT: u32 = 4;
 pub const RANGE: u32 = 5;
 
 #[cfg(feature = "model")]
-pub use crate::model::{kind_of, open, prettify, read_header, sector_text, write_header};
+pub use crate::model::{kind_of, open, open_chain, prettify, read_chain, read_header, sector_text, write_header};
 
 #[cfg(not(feature = "model"))]
-pub use archive::{kind_of, open, prettify, read_header, sector_text, write_header};
+pub use archive::{kind_of, open, open_chain, prettify, read_chain, read_header, sector_text, write_header};
 
 #[cfg(not(feature = "model"))]
 mod archive {
-    use super::{State, Tables, Words};
+    use super::{Answer, Lent, State, Tables, Words};
 
     extern "C" {
         fn rasuvelk_read_header(bytes: *const u8, len: usize, mode: u32, words: *mut Words) -> u32;
@@ -124,6 +135,47 @@ mod archive {
             marks: *mut u8,
             marks_len: usize,
             state: *mut State,
+        ) -> u32;
+        fn rasuvelk_open_chain(
+            state: *const State,
+            image: *const u8,
+            image_len: usize,
+            fat: *const u32,
+            fat_len: usize,
+            fats: *const u32,
+            fats_len: usize,
+            difats: *const u32,
+            difats_len: usize,
+            frees: *const u32,
+            frees_len: usize,
+            marks: *const u8,
+            marks_len: usize,
+            ids: *mut u32,
+            ids_len: usize,
+            start: u32,
+            answer: *mut Answer,
+        ) -> u32;
+        fn rasuvelk_read_chain(
+            state: *const State,
+            image: *const u8,
+            image_len: usize,
+            fat: *const u32,
+            fat_len: usize,
+            fats: *const u32,
+            fats_len: usize,
+            difats: *const u32,
+            difats_len: usize,
+            frees: *const u32,
+            frees_len: usize,
+            marks: *const u8,
+            marks_len: usize,
+            ids: *mut u32,
+            ids_len: usize,
+            start: u32,
+            offset: u64,
+            buf: *mut u8,
+            buf_len: usize,
+            answer: *mut Answer,
         ) -> u32;
     }
 
@@ -178,6 +230,71 @@ mod archive {
                 tables.marks.as_mut_ptr(),
                 tables.marks.len(),
                 state,
+            )
+        }
+    }
+
+    /// Lists the ids of a chain; 0, or the number of the refusal.
+    pub fn open_chain(lent: &Lent, ids: &mut [u32], start: u32, answer: &mut Answer) -> u32 {
+        let Lent { state, image, tables } = *lent;
+        // SAFETY: each pointer and the length after it are those of one live slice; the id list and `answer` are
+        // lent alone.
+        unsafe {
+            rasuvelk_open_chain(
+                state,
+                image.as_ptr(),
+                image.len(),
+                tables.fat.as_ptr(),
+                tables.fat.len(),
+                tables.fats.as_ptr(),
+                tables.fats.len(),
+                tables.difats.as_ptr(),
+                tables.difats.len(),
+                tables.frees.as_ptr(),
+                tables.frees.len(),
+                tables.marks.as_ptr(),
+                tables.marks.len(),
+                ids.as_mut_ptr(),
+                ids.len(),
+                start,
+                answer,
+            )
+        }
+    }
+
+    /// Reads a chain from an offset, and lists its ids; 0, or the number of the refusal.
+    pub fn read_chain(
+        lent: &Lent,
+        ids: &mut [u32],
+        start: u32,
+        offset: u64,
+        buf: &mut [u8],
+        answer: &mut Answer,
+    ) -> u32 {
+        let Lent { state, image, tables } = *lent;
+        // SAFETY: as above, and the buffer is lent alone.
+        unsafe {
+            rasuvelk_read_chain(
+                state,
+                image.as_ptr(),
+                image.len(),
+                tables.fat.as_ptr(),
+                tables.fat.len(),
+                tables.fats.as_ptr(),
+                tables.fats.len(),
+                tables.difats.as_ptr(),
+                tables.difats.len(),
+                tables.frees.as_ptr(),
+                tables.frees.len(),
+                tables.marks.as_ptr(),
+                tables.marks.len(),
+                ids.as_mut_ptr(),
+                ids.len(),
+                start,
+                offset,
+                buf.as_mut_ptr(),
+                buf.len(),
+                answer,
             )
         }
     }

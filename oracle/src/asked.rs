@@ -3,8 +3,8 @@
 use crate::abi::{self, Tables, Words};
 use crate::image;
 use crate::internal::consts::{self, Sector};
-use crate::internal::{Header, Validation, Version};
-use std::io::{Error, ErrorKind};
+use crate::internal::{Allocator, Chain, Header, SectorInit, Validation, Version};
+use std::io::{Error, ErrorKind, Read, Seek, SeekFrom};
 
 /// How the Rust's messages begin, and the refusal that each is.
 const CAUSES: [(&str, u32); 8] = [
@@ -88,6 +88,52 @@ pub fn open(bytes: &[u8], mode: u32) -> Opening {
     let count = fat.iter().filter(|&&entry| entry == consts::FREE_SECTOR).count();
     let frees = image::last_free(&mut allocator, count).unwrap();
     Opening::Opened(Tables { fat, fats: loaded.fat_sectors, difats: loaded.difat_sectors, frees, marks })
+}
+
+/// How the messages of a walk and of a seek begin, and the refusal that each is.
+const CHAIN_CAUSES: [(&str, ErrorKind, u32); 4] = [
+    ("Found reference to sector ", ErrorKind::InvalidData, 20),
+    ("next_id (", ErrorKind::InvalidData, 21),
+    ("Chain contained duplicate sector id ", ErrorKind::InvalidData, 22),
+    ("Cannot seek to ", ErrorKind::InvalidInput, 23),
+];
+
+/// The refusal that an error of a chain is.
+fn chain_number(error: Error) -> u32 {
+    let message = error.to_string();
+    let cause = CHAIN_CAUSES.iter().find(|cause| message.starts_with(cause.0) && error.kind() == cause.1);
+    cause.unwrap_or_else(|| panic!("no refusal begins so: {message}")).2
+}
+
+/// What a chain's ids are, or the refusal: by a walk, and once more by what the allocator remembers of that.
+pub fn open_chain<F>(allocator: &mut Allocator<F>, start: u32) -> Result<Vec<u32>, u32> {
+    let walked = Chain::new(allocator, start, SectorInit::Zero).map(|chain| chain.sector_ids().to_vec());
+    let opened = allocator.open_chain(start, SectorInit::Zero).map(|chain| {
+        assert_eq!(chain.start_sector_id(), start);
+        chain.sector_ids().to_vec()
+    });
+    let [walked, opened] = [walked, opened].map(|ids| ids.map_err(chain_number));
+    assert_eq!(walked, opened);
+    walked
+}
+
+/// What a chain's ids are and how many bytes were read from an offset, or the refusal. One read is a run of sectors that
+/// follow one another, so it reads until the buffer is full or the chain ends.
+pub fn read_chain<F: Read + Seek>(
+    allocator: &mut Allocator<F>,
+    start: u32,
+    offset: u64,
+    buf: &mut [u8],
+) -> Result<(Vec<u32>, usize), u32> {
+    let mut chain = Chain::new(allocator, start, SectorInit::Zero).map_err(chain_number)?;
+    chain.seek(SeekFrom::Start(offset)).map_err(chain_number)?;
+    let mut done = 0;
+    loop {
+        match chain.read(&mut buf[done..]).unwrap() {
+            0 => return Ok((chain.sector_ids().to_vec(), done)),
+            read => done += read,
+        }
+    }
 }
 
 /// The words of a header.

@@ -111,6 +111,18 @@ pub fn open(image: Vec<u8>, mode: Validation) -> Result<Allocator<Store>> {
     Allocator::new(sectors, tables.difat_sectors, tables.fat_sectors, tables.fat, mode)
 }
 
+/// Opens a lent image, to read from it: header, tables, `Allocator::new`.
+pub fn lend(image: &[u8], mode: Validation) -> Result<Allocator<Cursor<&[u8]>>> {
+    let (version, tables) = loaded(image, mode)?;
+    over(image, version, tables, mode)
+}
+
+/// `Allocator::new` with these tables over a lent image, which it does not look at.
+pub fn over(image: &[u8], version: Version, tables: Tables, mode: Validation) -> Result<Allocator<Cursor<&[u8]>>> {
+    let sectors = Sectors::new(version, image.len() as u64, Cursor::new(image));
+    Allocator::new(sectors, tables.difat_sectors, tables.fat_sectors, tables.fat, mode)
+}
+
 /// Opens an image without a copy of it: the store behind is empty, and forgets what is written to it. The tables are
 /// those that were loaded, before `Allocator::new` mends its own.
 pub fn judge(image: &[u8], mode: Validation) -> Result<(Allocator<Empty>, Tables)> {

@@ -52,7 +52,7 @@ fn cut(version: u16, image: &[u8], see: &mut impl FnMut(&Case)) {
 }
 
 /// Lengths of a table around the room: none, one less, as long, longer.
-fn table_lengths(room: usize) -> Vec<usize> {
+pub fn table_lengths(room: usize) -> Vec<usize> {
     let mut all = vec![0, room.saturating_sub(1), room, room + 1, room + 5];
     all.dedup();
     all

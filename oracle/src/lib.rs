@@ -5,9 +5,11 @@
 //! - `abi`: the functions of the archive, or of the model with the feature `model`.
 //! - `model`: the same functions, written from the specification alone.
 //! - `held`: one opening, asked of the library and of the model; `against` (`cfg(oracle)`): of the Rust too.
+//! - `called`: one call on a chain, asked of the library and of the model; `chained` (`cfg(oracle)`): of the Rust too.
 //! - `replay` (`cfg(oracle)`): the fixed list of answers for a program that has no Rust at hand.
 //! - `inputs`, `random`: headers and lists to compare on, the same at every run.
 //! - `layout`, `damage`, `openings`, `lengths`: images to open, whole and damaged, and how they are lent.
+//! - `calls`, `tamper`: calls on the chains of opened images; states and tables that no opening gave.
 //! - `meant`: where the Rust's reader of headers may differ.
 
 #[cfg(oracle)]
@@ -23,6 +25,8 @@ pub mod against;
 #[cfg(oracle)]
 pub mod asked;
 #[cfg(oracle)]
+pub mod chained;
+#[cfg(oracle)]
 pub mod image;
 #[cfg(oracle)]
 pub mod internal;
@@ -30,6 +34,8 @@ pub mod internal;
 pub mod replay;
 
 pub mod abi;
+pub mod called;
+pub mod calls;
 pub mod damage;
 pub mod held;
 pub mod inputs;
@@ -39,6 +45,7 @@ pub mod meant;
 pub mod model;
 pub mod openings;
 pub mod random;
+pub mod tamper;
 
 // The four files ask for `fnv::FnvHashSet` and, from the crate's root, for the two traits.
 #[cfg(oracle)]

@@ -5,8 +5,10 @@
 
 use crate::abi::{self, Words};
 
+mod chains;
 mod opening;
 
+pub use chains::{open_chain, read_chain};
 pub use opening::open;
 
 const HEADER: usize = 512;

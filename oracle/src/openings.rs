@@ -33,21 +33,22 @@ pub fn untouched(image: &mut [u8], show: impl FnOnce(&mut [u8])) {
     assert!(sum_of(image) == before, "the image was written");
 }
 
-/// Good images of version 3 around every multiple of 128 up to 16,384, and of version 4 around three of 1,024, each in
-/// one mode; shorter ones in both.
+/// Good images of version 3 around every multiple of 128 up to 16,384, each in one mode; of version 4 around every
+/// multiple of 1,024, and shorter ones, in both.
 pub fn good(random: &mut Random, see: &mut impl FnMut(&Case)) {
     let around = |each: usize, last: usize| {
         (0..=last).flat_map(move |times| [(times * each).wrapping_sub(1), times * each, times * each + 1])
     };
-    let third = around(128, 128).map(|n| (3, n));
-    for (version, n) in third.chain(around(1024, 3).map(|n| (4, n))) {
-        if n <= 16_384 {
-            let layout = Layout::random(random, version, n);
-            let mode = random.below(2) as u32;
-            untouched(&mut layout.noisy(random), |image| {
-                see(&Case { image, used: image.len(), mode, lengths: [n; 5] });
-            });
-        }
+    for n in around(128, 128).filter(|&n| n <= 16_384) {
+        let layout = Layout::random(random, 3, n);
+        let mode = random.below(2) as u32;
+        untouched(&mut layout.noisy(random), |image| {
+            see(&Case { image, used: image.len(), mode, lengths: [n; 5] });
+        });
+    }
+    for n in around(1024, 16).filter(|&n| n <= 16_384) {
+        let layout = Layout::random(random, 4, n);
+        untouched(&mut layout.noisy(random), |image| both(4, image, see));
     }
     for n in 0..300 {
         let layouts = [Layout::plain(3, n), Layout::random(random, 3, n), Layout::random(random, 4, n.min(20))];

@@ -8,7 +8,7 @@ use oracle::asked::{self, Opening};
 use oracle::held::{self, Case};
 use oracle::image::{self, Store};
 use oracle::inputs::{put32, put_listed, END, FREE};
-use oracle::internal::{Allocator, SectorInit, Validation};
+use oracle::internal::{Allocator, SectorInit, Validation, Version};
 use oracle::layout::{Layout, DIFAT, DIFATS_AT, FAT, FATS_AT, FIRST_DIFAT_AT};
 use oracle::openings::{self, room};
 use std::io::{Read, Write};
@@ -206,6 +206,49 @@ fn smallest_forgotten_in_a_difat_sector() {
     let layout = Layout::plain(3, 13_953);
     let image = with_long(&layout, layout.listed_at(111), 5);
     assert_eq!((ours(&image), rusts(&image)), (12, (layout.entries, layout.fats)));
+}
+
+/// 12: an id too few in the header, and one more in the DIFAT sector. The stand-ins load as many as there must be, and the
+/// Rust has the same list as with each in its place.
+#[test]
+fn smallest_moved_to_a_difat_sector() {
+    let layout = Layout::plain(3, 13_953);
+    assert_eq!((layout.fats.len(), &layout.difats[..]), (110, &[110][..]));
+    let mut image = with_long(&layout, layout.listed_at(108), FREE);
+    put32(&mut image, layout.listed_at(109), 108);
+    put32(&mut image, layout.listed_at(110), 109);
+    assert_eq!([FATS_AT, DIFATS_AT].map(|at| image::get32(&image, at)), [110, 1]);
+    assert_eq!((ours(&image), rusts(&image)), (12, (layout.entries, layout.fats)));
+}
+
+/// 12: an id of a sector that is not there. The Rust refuses it too, by causes that have no number of their own: the
+/// stand-ins can't load it, and alloc.rs, handed it all the same, does not find it in the FAT.
+#[test]
+fn smallest_id_past_the_end() {
+    let refused = |image: &[u8], id: u32| {
+        for mode in [0, 1] {
+            match asked::open(image, mode) {
+                Opening::Unnumbered(message) => assert!(message.contains(&format!("No sector {id} "))),
+                other => panic!("the Rust {other:?}"),
+            }
+        }
+    };
+    let layout = Layout::small(&[FAT]);
+    for id in [1, 0xffff_fffa] {
+        let image = with_long(&layout, layout.listed_at(0), id);
+        assert_eq!(ours(&image), 12);
+        refused(&image, id);
+        let tables = || image::Tables { difat_sectors: vec![], fat_sectors: vec![id], fat: vec![FAT] };
+        let message = format!("DIFAT lists {id} as a FAT sector");
+        for mode in [Validation::Permissive, Validation::Strict] {
+            let error = image::over(&image, Version::V3, tables(), mode).err().unwrap();
+            assert!(error.to_string().contains(&message));
+        }
+    }
+    let layout = Layout::plain(3, 13_953);
+    let image = with_long(&layout, FIRST_DIFAT_AT, 13_953);
+    assert_eq!(ours(&image), 12);
+    refused(&image, 13_953);
 }
 
 /// 13: an entry past the last sector; alloc.rs is handed the first n.

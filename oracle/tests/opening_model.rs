@@ -35,7 +35,7 @@ impl Tally {
 fn good_images() {
     let mut tally = Tally::default();
     openings::good(&mut Random::new("model good"), &mut |case| tally.see(case));
-    assert_eq!((tally.compared(), tally.0[0]), (2_196, 2_196));
+    assert_eq!((tally.compared(), tally.0[0]), (2_283, 2_283));
 }
 
 #[test]

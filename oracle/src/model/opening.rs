@@ -29,7 +29,7 @@ impl Sectors<'_> {
 }
 
 /// The room of a lent image: the sectors after the header's, but no more than the most.
-fn room(lent: usize, length: usize) -> usize {
+pub fn room(lent: usize, length: usize) -> usize {
     let whole = lent / length;
     if whole == 0 {
         return 0;
@@ -152,7 +152,7 @@ fn contents(sectors: &Sectors, header: &Words, strict: bool) -> Result<Tables, u
 }
 
 /// Stores what a table holds, and zeros to its end.
-fn store<T: Copy + Default>(table: &mut [T], held: &[T]) {
+pub fn store<T: Copy + Default>(table: &mut [T], held: &[T]) {
     table.fill(T::default());
     table[..held.len()].copy_from_slice(held);
 }
