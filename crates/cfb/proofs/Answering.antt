@@ -7,7 +7,7 @@ use mathlib.Core.Logic.{⊎-elim, _≢_}
 use native.Mathlib.Omega.{arith}
 use borrow.Author.Tests.{eq-eqb, ne-eqb, lt-ltb, le-ltb}
 use lib.Dec.{eqb, ltb}
-use lib.ListN.{length, take, replicate}
+use lib.ListN.{length, getD, take, replicate}
 use lib.Seq.{take-at}
 use Rattle.lists.specs.Lists.{choose}
 use Rattle.lists.specs.Rows.{row, refusal, distinct, fresh}
@@ -21,6 +21,7 @@ use Rattle.chain.specs.declared.Walked.the-variants.{Listed, Refused}
 use Rattle.cfb.specs.Calls.{stateLen, agreedRows, walkRows, chainRows, chainNo, chainIds, readRows, readNo, idsLeft, toldBy, told, ChainOpens, ChainReads}
 use Rattle.cfb.specs.Listed.{walkedAs, answerFrom, ChainListed}
 use Rattle.cfb.specs.declared.State.{State}
+use Rattle.cfb.specs.declared.Called.{Called}
 use Rattle.cfb.specs.declared.Answer.{Answer}
 use Rattle.cfb.specs.declared.Answer.the-variants.{Done}
 use Rattle.cfb.specs.declared.Answer.the-variants as answers
@@ -153,3 +154,33 @@ module _ (s : State) (img : List ℕ) (t : Tables) (ids : List ℕ) (start : ℕ
         where
           open-read : {k : ℕ} {now : List ℕ} → k ≡ 0 → now ≡ choose (eqb k 0) now buf
           open-read {k} z = rw (eq-eqb k 0 z)
+
+-- two answers with the same numbers are one
+told-apart : (v w : Answer) → toldBy v ≡ toldBy w → v ≡ w
+told-apart (Done a b c) (Done x y z) e =
+    let p : a ≡ x = ap (λ (xs : List ℕ). getD xs 1 0) e in
+    let q : b ≡ y = ap (λ (xs : List ℕ). getD xs 2 0) e in
+    let u : c ≡ z = ap (λ (xs : List ℕ). getD xs 3 0) e in
+    rw (p, q, u)
+told-apart (Done a b c) (answers.Refused k) e = let z : _≡_ {A = ℕ} 4 1 = ap (λ (xs : List ℕ). length xs) e in absurd (omega arith)
+told-apart (answers.Refused j) (Done x y z) e = let o : _≡_ {A = ℕ} 1 4 = ap (λ (xs : List ℕ). length xs) e in absurd (omega arith)
+told-apart (answers.Refused j) (answers.Refused k) e = let p : j ≡ k = ap (λ (xs : List ℕ). getD xs 0 0) e in rw p
+
+module _ {s : State} {img : List ℕ} {t : Tables} {ids : List ℕ} {start : ℕ} {r q : Called} {img' img'' : List ℕ} {t' t'' : Tables} {ids' ids'' : List ℕ} where
+  -- any two results that the contract of open permits are the same
+  pub opens-unique : ChainOpens s img t ids start r img' t' ids' → ChainOpens s img t ids start q img'' t'' ids''
+      → (r .answer ≡ q .answer) × (r .state ≡ q .state) × (img' ≡ img'') × (t' ≡ t'') × (ids' ≡ ids'')
+  opens-unique a b =
+      (told-apart (r .answer) (q .answer) (a .answer ∙ sym (b .answer)), a .state ∙ sym (b .state), a .image ∙ sym (b .image), a .tables ∙ sym (b .tables), a .list ∙ sym (b .list))
+
+  -- and so are those of read
+  pub reads-unique : {offset : ℕ} {buf buf' buf'' : List ℕ} → ChainReads s img t ids start offset buf r img' t' ids' buf' → ChainReads s img t ids start offset buf q img'' t'' ids'' buf''
+      → (r .answer ≡ q .answer) × (r .state ≡ q .state) × (img' ≡ img'') × (t' ≡ t'') × (ids' ≡ ids'') × (buf' ≡ buf'')
+  reads-unique a b = (
+    told-apart (r .answer) (q .answer) (a .answer ∙ sym (b .answer)),
+    a .state ∙ sym (b .state),
+    a .image ∙ sym (b .image),
+    a .tables ∙ sym (b .tables),
+    a .list ∙ sym (b .list),
+    a .buffer ∙ sym (b .buffer),
+  )
