@@ -3,4 +3,5 @@ pub mod Answering
 pub mod Calling
 pub mod Clearing
 pub mod Facing
+pub mod Given
 pub mod Lying

@@ -11,7 +11,6 @@ use Rattle.lists.specs.Rows.{distinct, fresh}
 use Rattle.lists.proofs.Rows.{given-none}
 use Rattle.alloc.specs.Opening.{Tables}
 use Rattle.agree.specs.Agree.{agreement}
-use Rattle.agree.specs.Agrees.{Agrees}
 use Rattle.chain.specs.Walk.{Outcome, lists, refuses, walkOf}
 use Rattle.chain.specs.Bytes.{Lies, Readable, ReadLeft}
 use Rattle.chain.proofs.Exactly.{never-spent}
@@ -40,15 +39,14 @@ passed-0 _ is-20 a b c = absurd (eqb-false 20 20 a refl)
 passed-0 _ is-21 a b c = absurd (eqb-false 21 21 b refl)
 passed-0 _ is-22 a b c = absurd (eqb-false 22 22 c refl)
 
-module _ (s : State) (img : List ℕ) (t : Tables) (room start : ℕ) (z : chainNo s img t room start ≡ 0)
-    (told : agreement (s .mode) img (s .used) (s .sectors) (s .free) (s .header) t ≡ true → Agrees (s .mode) img (s .used) (s .sectors) (s .free) (s .header) t) where
+module _ (s : State) (img : List ℕ) (t : Tables) (room start : ℕ) (z : chainNo s img t room start ≡ 0) where
   -- state and tables agree
   agreed : agreement (s .mode) img (s .used) (s .sectors) (s .free) (s .header) t ≡ true
   unfolding chainNo chainRows agreedRows walkRows distinct fresh
   agreed = not-false _ (given-none (chainRows s img t room start) refl z 1 (omega arith))
 
   known : Chained (stateLen s) img (t .fat) (s .sectors)
-  known = agreed-chained _ img _ _ _ _ t (told agreed)
+  known = agreed-chained _ img _ _ _ _ t (agrees-exactly (s .mode) img (s .used) (s .sectors) (s .free) (s .header) t .0 agreed)
 
   -- the walk is not refused
   number-0 : outcomeNo (walkOf (take (s .sectors) (t .fat)) start) ≡ 0
@@ -58,7 +56,7 @@ module _ (s : State) (img : List ℕ) (t : Tables) (room start : ℕ) (z : chain
       passed-0 _ (walk-number _ start (known .few) (known .once)) (none 2 (omega arith)) (none 3 (omega arith)) (none 4 (omega arith))
 
   -- the walk lists the chain
-  lists-chain : walkOf (take (s .sectors) (t .fat)) start ≡ lists (chainIds s t start)
+  pub lists-chain : walkOf (take (s .sectors) (t .fat)) start ≡ lists (chainIds s t start)
   unfolding chainIds walked
   lists-chain = outcome-lists _ number-0 (never-spent _ start (known .few) (known .once))
 
@@ -90,7 +88,7 @@ module _ (s : State) (img : List ℕ) (t : Tables) (ids : List ℕ) (start : ℕ
   listed-within = omega (arith, listed-count, length-take c ids')
 
   lies : Lies (stateLen s) (length img) (take c ids')
-  lies = rw front (chain-lies s img t (length ids) start (done .0) (agrees-exactly (s .mode) img (s .used) (s .sectors) (s .free) (s .header) t .0))
+  lies = rw front (chain-lies s img t (length ids) start (done .0))
 
   -- all its bytes are fewer than the image's
   pub listed-bytes : {S : ℕ} → S ≡ stateLen s → S * c ≤ length img

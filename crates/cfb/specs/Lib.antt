@@ -1,3 +1,4 @@
 pub mod Calls
+pub mod Causes
 pub mod Face
 pub mod Listed
