@@ -1,7 +1,7 @@
 //! The fixed list of the Rust's answers, which a program replays with no Rust at hand.
 //!
-//! A record has 1,024 bytes: its kind (R, W, P or O), the mode, the length L of what is lent (two bytes), the
-//! answer's number, three bytes that only O has, and then
+//! A record has 1,024 bytes: its kind (R, W, P, O or C), the mode, the length L of what is lent (two bytes), the
+//! answer's number, three bytes that only O and C have, and then
 //! - R: the L bytes of the slice, and at 552 the 117 words after the call;
 //! - W: the 117 words, and at 476 the L bytes of the buffer after the call; byte i was 7i + 3 before it;
 //! - P: the L entries, and at 248 the text of all items, each with a line feed after it; the answer is
@@ -11,7 +11,10 @@
 //!   and after the call at 616 the FAT, at 712 the free list, at 808 the marks, at 832 the FAT sectors, at 928 the
 //!   DIFAT sectors. The lent image is the header and L times 512 bytes, all of them used: sector s, where there is one,
 //!   holds the entries and then FREE, and every other byte is zero. Each lent table has 24 elements, which are full of
-//!   0xaa before the call, and the record has all of them after it.
+//!   0xaa before the call, and the record has all of them after it;
+//! - C: L, byte 5, the header and the entries are an image as O has it, which opens; the call is then to open a chain on
+//!   the state and tables that this leaves. Byte 6 is how many ids the chain has, byte 7 zero; at 616 the start, and at
+//!   620 the id list after the call: 24 elements, which are full of 0xaa before it.
 //!
 //! Whatever is not named is zero. An input is on the list only if the Rust and the specification agree on it.
 
@@ -20,6 +23,7 @@ use crate::inputs::{self, Bytes, END, FREE, HEADER, LISTED, SPECIAL};
 use crate::random::Random;
 use crate::{asked, model};
 
+pub mod chains;
 pub mod opens;
 
 /// Bytes of a record, and where its parts begin.
@@ -33,6 +37,7 @@ pub const READS: usize = 150;
 pub const WRITES: usize = 60;
 pub const LISTS: usize = 40;
 pub const OPENS: usize = 100;
+pub const CHAINS: usize = 80;
 /// The longest slice and buffer, and the longest list.
 const LONGEST: usize = 540;
 const LIST: usize = 60;
@@ -231,7 +236,7 @@ fn lists(random: &mut Random) -> Vec<Record> {
 /// All records, the same at every run.
 pub fn records() -> Vec<Record> {
     let random = &mut Random::fixed("replay");
-    [reads(random), writes(random), lists(random), opens::records()].concat()
+    [reads(random), writes(random), lists(random), opens::records(), chains::records()].concat()
 }
 
 /// The whole list, as the file of the program `replay` holds it.

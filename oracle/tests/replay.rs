@@ -1,7 +1,7 @@
 //! The fixed list, replayed: each record is taken apart by its layout alone and asked of the library.
 #![cfg(oracle)]
 
-use oracle::abi::{self, Tables};
+use oracle::abi::{self, Lent, Tables};
 use oracle::replay::{self, Record};
 
 fn get32(record: &Record, at: usize) -> u32 {
@@ -43,7 +43,7 @@ fn replay_list(record: &Record, len: usize) {
     assert!(record[248 + text.len()..].iter().chain(&record[8 + 4 * len..248]).all(|&byte| byte == 0));
 }
 
-/// The image that an O record describes.
+/// The image that an O or a C record describes.
 fn image_in(record: &Record, n: usize) -> Vec<u8> {
     let mut image = vec![0; 512 * (n + 1)];
     image[..512].copy_from_slice(&record[8..520]);
@@ -55,20 +55,31 @@ fn image_in(record: &Record, n: usize) -> Vec<u8> {
     image
 }
 
-fn replay_open(record: &Record, n: usize) {
-    assert!(n <= 24 && record[5] < 24);
-    let table = |at: usize| (0..24).map(|i| get32(record, at + 4 * i)).collect();
-    let left = Tables {
-        fat: table(616),
-        fats: table(832),
-        difats: table(928),
-        frees: table(712),
-        marks: record[808..832].to_vec(),
-    };
+/// The 24 words from a place on.
+fn table(record: &Record, at: usize) -> Vec<u32> {
+    (0..24).map(|i| get32(record, at + 4 * i)).collect()
+}
+
+/// Opens the image that a record describes: the number, and what stands in the tables and the state after it.
+fn opened(record: &Record, image: &[u8]) -> (u32, Tables, abi::State) {
     let [fat, fats, difats, frees] = std::array::from_fn(|_| vec![0xaaaa_aaaa; 24]);
     let mut tables = Tables { fat, fats, difats, frees, marks: vec![0xaa; 24] };
-    let (image, mode, mut state) = (image_in(record, n), record[1].into(), [3; 121]);
-    let number = abi::open(&image, image.len(), mode, &mut tables, &mut state);
+    let mut state = [3; 121];
+    let number = abi::open(image, image.len(), record[1].into(), &mut tables, &mut state);
+    (number, tables, state)
+}
+
+fn replay_open(record: &Record, n: usize) {
+    assert!(n <= 24 && record[5] < 24);
+    let left = Tables {
+        fat: table(record, 616),
+        fats: table(record, 832),
+        difats: table(record, 928),
+        frees: table(record, 712),
+        marks: record[808..832].to_vec(),
+    };
+    let (image, mode) = (image_in(record, n), record[1].into());
+    let (number, tables, state) = opened(record, &image);
     assert_eq!((number, tables), (record[4].into(), left));
     // The counts stand in the record, and the header is what the reader gives.
     let mut words = [1; 117];
@@ -85,15 +96,33 @@ fn replay_open(record: &Record, n: usize) {
     assert_eq!(state, expected);
 }
 
+fn replay_chain(record: &Record, n: usize) {
+    assert!(n <= 24 && record[5] < 24 && record[7] == 0);
+    let image = image_in(record, n);
+    let (number, tables, state) = opened(record, &image);
+    assert_eq!(number, 0);
+    let (mut ids, mut answer, start) = (vec![0xaaaa_aaaa; 24], [5; 3], get32(record, 616));
+    let number = abi::open_chain(&Lent { state: &state, image: &image, tables: &tables }, &mut ids, start, &mut answer);
+    assert_eq!((number, ids), (record[4].into(), table(record, 620)));
+    let expected = match number {
+        0 => [record[6].into(), start.into(), 0],
+        _ => [0; 3],
+    };
+    assert_eq!(answer, expected);
+    assert!(number == 0 || record[6] == 0);
+    assert!(record[716..].iter().all(|&byte| byte == 0));
+}
+
 #[test]
 fn every_record() {
     let records = replay::records();
-    let mut kinds = [0; 4];
+    let mut kinds = [0; 5];
     let mut answers = [[0; 10]; 2];
     let mut opened = [[0; 19]; 2];
+    let mut chained = [[0; 23]; 2];
     for record in &records {
         let len = usize::from(record[2]) + 256 * usize::from(record[3]);
-        assert!(record[0] == b'O' || record[5..8] == [0; 3]);
+        assert!(b"OC".contains(&record[0]) || record[5..8] == [0; 3]);
         match record[0] {
             b'R' => {
                 replay_read(record, len);
@@ -108,21 +137,28 @@ fn every_record() {
                 replay_list(record, len);
                 kinds[2] += 1;
             }
-            other => {
-                assert_eq!(other, b'O');
+            b'O' => {
                 replay_open(record, len);
                 kinds[3] += 1;
                 opened[usize::from(record[1])][usize::from(record[4])] += 1;
             }
+            other => {
+                assert_eq!(other, b'C');
+                replay_chain(record, len);
+                kinds[4] += 1;
+                chained[usize::from(record[1])][usize::from(record[4])] += 1;
+            }
         }
     }
-    assert_eq!(kinds, [150, 60, 40, 100]);
+    assert_eq!(kinds, [150, 60, 40, 100, 80]);
     // Accepted, then refusals 1 to 9; permissive, then strict.
     assert_eq!(answers, [[30, 0, 7, 5, 6, 7, 5, 0, 6, 8], [23, 5, 5, 4, 7, 9, 7, 3, 5, 8]]);
     // The openings: opened, then refusals 1 to 18.
     let permissive = [25, 0, 1, 1, 1, 1, 1, 0, 1, 3, 0, 0, 3, 0, 0, 0, 6, 4, 0];
     let strict = [23, 0, 1, 1, 1, 1, 1, 1, 1, 3, 0, 0, 3, 0, 5, 4, 4, 4, 0];
     assert_eq!(opened, [permissive, strict]);
+    // The chains: opened, then refusals 20 to 22, and no others.
+    assert_eq!(chained.map(|of| [of[0], of[20], of[21], of[22]]), [[15, 10, 13, 3], [14, 7, 15, 3]]);
 }
 
 #[test]

@@ -2,3 +2,4 @@ pub mod Held
 pub mod Agreed
 pub mod Lined
 pub mod Opened
+pub mod Chained

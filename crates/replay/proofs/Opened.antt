@@ -50,7 +50,7 @@ tables-same b {marks = marks} f e s d m =
     λ i. record { fat = f i; fats = s i; difats = d i; frees = e i; marks = k i }
 
 -- the shortest of the lent tables
-lent-shortest : shortest lentTables ≡ 24
+pub lent-shortest : shortest lentTables ≡ 24
 unfolding shortest lentTables
 lent-shortest = refl
 

@@ -20,6 +20,8 @@ use Rattle.header.specs.declared.Header.{Header}
 use Rattle.alloc.specs.Opening.{Tables, openNo}
 use Rattle.alloc.specs.Opened.{tablesLeft}
 use Rattle.cfb.specs.Face.{tablesOf, stateOf}
+use Rattle.cfb.specs.Calls.{chainNo, chainIds, idsLeft}
+use Rattle.cfb.specs.declared.State.{State}
 
 -- the length of what the call is lent
 unfoldable pub lengthIn : List ℕ → ℕ
@@ -159,9 +161,35 @@ pub record OpenAgrees (b : List ℕ) : Type 0 where
   pub place : placeIn b < 24
   pub opened : OpenedAs b (imageIn b)
 
--- the library agrees with the record, by its kind: R, W, P or O
+-- the start of the record's chain
+unfoldable pub startIn : List ℕ → ℕ
+startIn b = le 4 b 616
+
+-- the lent id list before a call
+unfoldable pub lentIds : List ℕ
+lentIds = replicate 24 2863311530
+
+-- opening the chain on a state and tables gives the number, the count and the id list of the record
+pub record CalledAs (b img : List ℕ) (s : State) (t : Tables) : Type 0 where
+  pub number : chainNo s img t 24 (startIn b) ≡ numberIn b
+  pub count : choose (eqb (numberIn b) 0) (length (chainIds s t (startIn b))) 0 ≡ getD b 6 0
+  pub ids : idsLeft (numberIn b) lentIds (chainIds s t (startIn b)) ≡ numbersIn (part b 620 96) 24
+
+-- all bytes of an image open, and the call on the state and tables that this gives is the record's
+pub record ChainedAs (b img : List ℕ) : Type 0 where
+  pub opened : openNo (modeIn b) img (length img) 24 ≡ 0
+  pub called : CalledAs b img (stateOf 0 (modeIn b) img (length img)) (tablesLeft 0 lentTables (tablesOf img (length img)))
+
+-- the record describes an image, and opening its chain gives the number, the count and the id list of the record
+pub record ChainAgrees (b : List ℕ) : Type 0 where
+  pub few : lengthIn b ≤ 24
+  pub place : placeIn b < 24
+  pub chained : ChainedAs b (imageIn b)
+
+-- the library agrees with the record, by its kind: R, W, P, O or C
 pub data Agrees (b : List ℕ) : Type 0 where
   reads : getD b 0 0 ≡ 82 → ReadAgrees b → Agrees b
   writes : getD b 0 0 ≡ 87 → WriteAgrees b → Agrees b
   lists : getD b 0 0 ≡ 80 → ListAgrees b → Agrees b
   opens : getD b 0 0 ≡ 79 → OpenAgrees b → Agrees b
+  chains : getD b 0 0 ≡ 67 → ChainAgrees b → Agrees b

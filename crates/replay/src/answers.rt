@@ -1,4 +1,5 @@
-// The kinds of answers on the list, each asked of the library again; the openings have a file of their own.
+// The kinds of answers on the list, each asked of the library again; the openings and the chains have files of their own.
+use crate::chains::same_chain;
 use crate::openings::same_open;
 use crate::records::RECORD;
 use crate::records::header_in;
@@ -190,6 +191,9 @@ pub(crate) fn same_answer(case: &[u8]) -> bool
         }
         b'O' => {
             return same_open(case);
+        }
+        b'C' => {
+            return same_chain(case);
         }
         _ => {
             return false;

@@ -1,6 +1,7 @@
 // Replays a list of the Rust's answers with no Rust at hand: reads records of 1,024 bytes, has the library answer each again,
 // and says how many answers there are and which differ.
 mod answers;
+mod chains;
 mod openings;
 mod records;
 

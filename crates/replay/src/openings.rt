@@ -13,7 +13,7 @@ ghost use Rattle.alloc.specs.Opening.{Tables};
 ghost use Rattle.replay.specs.Records.{numbersIn, placeIn, entriesIn, sectorBytes, tablesIn, OpenedAs, OpenAgrees};
 
 // What a lent table of numbers is full of before an opening; the marks are full of its byte.
-const RUBBISH: u32 = 0xaaaa_aaaa;
+pub(crate) const RUBBISH: u32 = 0xaaaa_aaaa;
 
 // Puts the sector of the FAT: the entries of the record, and FREE behind them.
 fn put_entries(case: &[u8], sector: &mut [u8])
@@ -25,7 +25,7 @@ fn put_entries(case: &[u8], sector: &mut [u8])
 }
 
 // Puts a header and 24 sectors: the header of the record, its FAT sector in its place, and zeros.
-fn put_sectors(case: &[u8], place: usize, image: &mut [u8])
+pub(crate) fn put_sectors(case: &[u8], place: usize, image: &mut [u8])
     requires { ⌜ (length (now case) ≡ 1024) × (place ≡ placeIn (now case)) × (place < 24) × (length (now image) ≡ 12800) ⌝ }
     ensures { λ _. ⌜ now (image .exit) ≡ sectorBytes (now (case .entry)) ⌝ }
 {
@@ -37,7 +37,7 @@ fn put_sectors(case: &[u8], place: usize, image: &mut [u8])
 }
 
 // Whether a table holds the 24 numbers that stand in 96 bytes.
-fn same_table(table: &[u32], held: &[u8]) -> bool
+pub(crate) fn same_table(table: &[u32], held: &[u8]) -> bool
     requires { ⌜ length (now held) ≡ 96 ⌝ }
     ensures { λ r. ⌜ (r ≡ true → now (table .entry) ≡ numbersIn (now (held .entry)) 24) ⌝ }
 {

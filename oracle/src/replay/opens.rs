@@ -28,12 +28,12 @@ pub const RUBBISH: u8 = 0xaa;
 
 /// What the image of a record is made from.
 #[derive(Clone, Copy)]
-struct Image {
-    header: Bytes,
-    n: usize,
+pub(super) struct Image {
+    pub(super) header: Bytes,
+    pub(super) n: usize,
     /// The sector that holds the entries, and FREE behind them. All others are zero.
-    place: usize,
-    entries: [u32; MOST],
+    pub(super) place: usize,
+    pub(super) entries: [u32; MOST],
 }
 
 impl Image {
@@ -46,13 +46,13 @@ impl Image {
     }
 
     /// The image whose FAT sector is the first, with these entries.
-    fn small(entries: &[u32]) -> Image {
+    pub(super) fn small(entries: &[u32]) -> Image {
         let layout = Layout::small(entries);
         Image::of(&layout, &layout.bytes())
     }
 
     /// The image whose FAT sector is this one, and whose other sectors are END.
-    fn ended(n: usize, place: usize) -> Image {
+    pub(super) fn ended(n: usize, place: usize) -> Image {
         let mut entries = vec![END; n];
         entries[place] = FAT;
         let layout = Layout { fats: vec![place as u32], entries, ..Layout::plain(3, n) };
@@ -60,7 +60,7 @@ impl Image {
     }
 
     /// With another entry.
-    fn entry(mut self, i: usize, entry: u32) -> Image {
+    pub(super) fn entry(mut self, i: usize, entry: u32) -> Image {
         self.entries[i] = entry;
         self
     }
@@ -77,7 +77,7 @@ impl Image {
     }
 
     /// The bytes that the record describes.
-    fn bytes(&self) -> Vec<u8> {
+    pub(super) fn bytes(&self) -> Vec<u8> {
         let mut bytes = vec![0; HEADER * (MOST + 1)];
         bytes[..HEADER].copy_from_slice(&self.header);
         let sector = &mut bytes[HEADER * (self.place + 1)..][..HEADER];
@@ -104,7 +104,7 @@ fn padded<T: Copy + Default>(mut table: Vec<T>) -> Vec<T> {
 }
 
 /// The number of an opening and what it leaves, where the two agree.
-fn agreed(bytes: &[u8], mode: u32) -> Option<(u32, abi::State, Tables)> {
+pub(super) fn agreed(bytes: &[u8], mode: u32) -> Option<(u32, abi::State, Tables)> {
     let (mut tables, mut state) = (lent(), [7; 121]);
     let number = model::open(bytes, bytes.len(), mode, &mut tables, &mut state);
     let same = match asked::open(bytes, mode) {
@@ -216,7 +216,7 @@ fn tables() -> Vec<Image> {
 }
 
 /// A random image: a good one in which some entries are others.
-fn random_image(random: &mut Random) -> Image {
+pub(super) fn random_image(random: &mut Random) -> Image {
     let n = random.below(MOST + 1);
     let layout = Layout::random(random, 3, n);
     let mut image = Image::of(&layout, &layout.noisy(random));

@@ -35,8 +35,14 @@ same-open-requires c κs = search needs
 returns-5 : tie.Need-returns-5
 returns-5 c = λ e. Agrees.opens (c .before .match .keys4) (c .same-open .ensures e)
 
+same-chain-requires : tie.Need-same-chain-requires
+same-chain-requires c κs = search needs
+
 returns-6 : tie.Need-returns-6
-returns-6 c = never
+returns-6 c = λ e. Agrees.chains (c .before .match .keys5) (c .same-chain .ensures e)
+
+returns-7 : tie.Need-returns-7
+returns-7 c = never
 
 pub same-answer-spec : {M : Type 1} → statement M
 same-answer-spec =
@@ -52,4 +58,6 @@ same-answer-spec =
     returns-4
     same-open-requires
     returns-5
-    returns-6)
+    same-chain-requires
+    returns-6
+    returns-7)

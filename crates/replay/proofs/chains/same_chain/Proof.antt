@@ -1,0 +1,79 @@
+-- `chains::same_chain` meets its contract: the image whose chain is opened is the record's. Assumes nothing.
+use mathlib.Core.Path.{refl, sym}
+use native.Mathlib.Omega.{arith}
+use lib.Seq.{length-take-le}
+use Rattle.replay.specs.Records.{placeIn}
+use Rattle.replay.proofs.Held.{never}
+use Rattle.replay.proofs.Chained.{chain-agrees}
+use borrow.Author.Needs.{needs}
+use Rattle.replay.proofs.chains.same_chain.Statement.{statement}
+use Rattle.replay.proofs.chains.same_chain.Tie as tie
+
+-- the places of the image and of the number of sectors, which lie far back
+abbrev at-put : tie.After-chained-as → tie.After-put-sectors
+at-put c = c .before .before .before
+
+abbrev at-length : tie.After-chained-as → tie.After-length-in
+at-length c = at-put c .before .before .before .before .before
+
+length-in-requires : tie.Need-length-in-requires
+length-in-requires c κs = search needs
+
+returns : tie.Need-returns
+returns c = never
+
+shared-slice-read-place : tie.Need-shared-slice-read-place
+shared-slice-read-place c = search needs
+
+cast-place : tie.Need-cast-place
+cast-place c = omega (arith, c .shared-slice-known2 .given 5)
+
+returns-2 : tie.Need-returns-2
+returns-2 c = never
+
+slice-aggregate-put-sectors : tie.Need-slice-aggregate-put-sectors
+slice-aggregate-put-sectors c = search needs
+
+put-sectors-requires : tie.Need-put-sectors-requires
+unfolding placeIn
+put-sectors-requires c κs = (search needs, refl, omega arith, search needs)
+
+add-end : tie.Need-add-end
+add-end c = search needs
+
+mul-end : tie.Need-mul-end
+mul-end c = search needs
+
+array-share-prefix-image : tie.Need-array-share-prefix-image
+array-share-prefix-image c = search needs
+
+slice-aggregate-chained-as : tie.Need-slice-aggregate-chained-as
+slice-aggregate-chained-as c = sym (length-take-le _ _ (search needs))
+
+chained-as-requires : tie.Need-chained-as-requires
+chained-as-requires c κs = search needs
+
+returns-3 : tie.Need-returns-3
+unfolding placeIn
+returns-3 c =
+    let placed = at-put c .before .before in
+    λ e.
+    chain-agrees _ (at-length c .length-in .ensures) (placed .before .before .if1 .left) refl (placed .if2 .left) (at-put c .put-sectors .ensures) (c .chained-as .ensures e)
+
+pub same-chain-spec : {M : Type 1} → statement M
+same-chain-spec =
+    tie.close
+    (tie.spec
+    length-in-requires
+    returns
+    shared-slice-read-place
+    cast-place
+    returns-2
+    slice-aggregate-put-sectors
+    put-sectors-requires
+    add-end
+    mul-end
+    array-share-prefix-image
+    slice-aggregate-chained-as
+    chained-as-requires
+    returns-3)
