@@ -1,18 +1,27 @@
 -- Nothing is lost at the library's edge: a header and a state come back from their words, and an item from its numbers. Assumes nothing.
-use Prim.Native.Nat.{_≤_}
+use Prim.Native.Nat.{ℕ, suc, _≤_, _<_, _^_}
 use mathlib.Core.Path.{_≡_, refl, sym, ap₂}
-use mathlib.Core.Bool.{true}
-use lib.Dec.{leb}
+use mathlib.Core.Bool.{Bool, true, false}
+use mathlib.Core.List.{List, [], _∷_}
+use native.Mathlib.Omega.{arith}
+use borrow.Author.Tests.{le-leb}
+use lib.Dec.{eqb, leb}
+use lib.ListN.{length, getD}
+use Rattle.lists.specs.Lists.{choose, Below}
 use Rattle.lists.proofs.Cases.{both-true}
-use Rattle.consts.specs.Consts.{freeSector}
+use Rattle.words.proofs.Laws.{le-below}
+use Rattle.consts.specs.Consts.{endOfChain, freeSector}
 use Rattle.consts.specs.declared.Sector.{Sector}
 use Rattle.consts.specs.declared.Sector.the-variants.{Free, End, Fat, Difat, Range}
-use Rattle.header.specs.Fields.{majorOf, versionOf}
+use Rattle.header.specs.Fields.{majorOf, versionOf, majorAt, dirsAt, fatsAt, dirAt, minifatAt, minifatsAt, difatAt, difatsAt, offsetOf, widthOf, numberAt, listOf}
+use Rattle.header.specs.Read.{dirsOf, endIfFree, headerOf, none}
+use Rattle.header.proofs.Given.{entries-narrow}
 use Rattle.header.specs.declared.Version.{Version}
 use Rattle.header.specs.declared.Version.the-variants.{V3, V4}
 use Rattle.header.specs.declared.Validation.{Validation}
 use Rattle.header.specs.declared.Validation.the-variants.{Permissive, Strict}
 use Rattle.header.specs.declared.Header.{Header}
+use Rattle.cfb.specs.Face.{noState, sectorsOf, tablesOf, stateOf}
 use Rattle.cfb.specs.declared.State.{State}
 use Rattle.export.specs.declared.items.Named.the-variants.{Known}
 use Rattle.export.specs.Items.{sectorNumber, sectorFirst, sectorLast, namedOf}
@@ -54,6 +63,57 @@ state-holds s fit = both-true (mode-known (s .mode)) (both-true (version-known (
     version-known : (v : Version) → isVersion (majorOf v) ≡ true
     version-known V3 = refl
     version-known V4 = refl
+
+-- a word of 32 bits fits
+fits-one : (x : ℕ) → x < 2 ^ 32 → leb x 4294967295 ≡ true
+fits-one x h = le-leb x 4294967295 (omega arith)
+
+-- the words beside a refusal fit
+none-fits : fitsIn (wordsOf none) ≡ true
+unfolding fitsIn wordsOf none
+none-fits = refl
+
+-- words of 32 bits fit, one by one
+fits-of : (xs : List ℕ) → ((i : ℕ) → i < length xs → getD xs i 0 < 2 ^ 32) → fitsIn xs ≡ true
+unfolding fitsIn
+fits-of [] h = refl
+fits-of (x ∷ xs) h = both-true (fits-one x (h 0 (omega arith))) (fits-of xs (λ i l. h (suc i) (omega arith)))
+
+-- the numbers of a header that is read from bytes have 32 bits
+module _ (b : List ℕ) (small : Below 256 b) where
+  four : (i : ℕ) → widthOf i ≡ 4 → numberAt b i < 2 ^ 32
+  unfolding numberAt
+  four i e = rw e (le-below 4 b (offsetOf i) small)
+
+  pub header-fits : fitsIn (wordsOf (headerOf b)) ≡ true
+  unfolding wordsOf headerOf fitsIn dirsOf endIfFree
+  header-fits =
+      both-true (major-fits (versionOf (numberAt b majorAt)))
+      (both-true (chosen (eqb (numberAt b majorAt) 3) 0 (numberAt b dirsAt) (omega arith) (four dirsAt refl))
+      (both-true (fits-one _ (four fatsAt refl))
+      (both-true (fits-one _ (four dirAt refl))
+      (both-true (fits-one _ (four minifatAt refl))
+      (both-true (fits-one _ (four minifatsAt refl))
+      (both-true (chosen (eqb (numberAt b difatAt) freeSector) endOfChain (numberAt b difatAt) (omega arith) (four difatAt refl))
+      (both-true (fits-one _ (four difatsAt refl))
+      (fits-of (listOf b) (entries-narrow b small)))))))))
+    where
+      major-fits : (v : Version) → leb (majorOf v) 4294967295 ≡ true
+      major-fits V3 = refl
+      major-fits V4 = refl
+
+      chosen : (t : Bool) (x y : ℕ) → x < 2 ^ 32 → y < 2 ^ 32 → leb (choose t x y) 4294967295 ≡ true
+      chosen true x y p q = fits-one x p
+      chosen false x y p q = fits-one y q
+
+-- what an opening of bytes leaves in the state's words holds a state
+pub opened-holds : (k : ℕ) (m : Validation) (img : List ℕ) (used : ℕ) → Below 256 img → holds (stateWords (stateOf k m img used)) ≡ true
+unfolding stateOf
+opened-holds k m img used small = at (eqb k 0)
+  where
+    at : (t : Bool) → holds (stateWords (choose t (record { mode = m; used = used; sectors = sectorsOf img used; free = length (tablesOf img used .frees); header = headerOf img }) noState)) ≡ true
+    at true = state-holds _ (header-fits img small)
+    at false = state-holds noState none-fits
 
 -- the ends of a range are entries of 32 bits
 abbrev pub Entries : Sector → Type 0
