@@ -33,7 +33,7 @@ pub(crate) fn end_if_free(difat: u32) -> u32
 }
 
 // The content of a whole header.
-pub(crate) fn content(b: &[u8]) -> Header
+pub fn content(b: &[u8]) -> Header
     requires { ⌜ 512 ≤ length (now b) ⌝ }
     ensures { λ r. ⌜ r ≡ headerOf (now (b .entry)) ⌝ }
 {

@@ -2,9 +2,10 @@
 use crate::fields::ENTRIES;
 use crate::fields::row;
 ghost use mathlib.Core.Path.{_≡_};
-ghost use Prim.Native.Nat.{_≤_};
+ghost use Prim.Native.Nat.{_+_, _*_, _≤_, _<_};
 ghost use lib.ListN.{length};
 ghost use Rattle.lists.specs.Lists.{splice};
+ghost use Rattle.words.specs.Words.{digits};
 ghost use Rattle.header.specs.Fields.{entriesAt, offsetOf, listOf, idsIn, allFree, idsThenFree};
 ghost use Rattle.header.specs.Write.{listBytes, unreadable as unreadableOf};
 
@@ -37,6 +38,17 @@ pub(crate) fn put_list(buf: &mut [u8], list: &[u32])
         words::put32(buf, at + 4 * i, list[i]);
         i += 1;
     }
+}
+
+// Stores entry p of the list.
+pub fn put_place(buf: &mut [u8], p: usize, v: u32)
+    requires { ⌜ 512 ≤ length (now buf) ⌝ }
+    requires { ⌜ p < 109 ⌝ }
+    ensures { λ _. ⌜ now (buf .exit) ≡ splice (now (buf .entry)) (offsetOf entriesAt + 4 * p) (digits 4 v) ⌝ }
+{
+    let f = row(ENTRIES);
+    let at = f.at;
+    words::put32(buf, at + 4 * p, v);
 }
 
 // How many sector numbers the list begins with.

@@ -33,7 +33,7 @@ pub(crate) const RESERVED: usize = 7;
 
 pub(crate) const DIRS: usize = 8;
 
-pub(crate) const FATS: usize = 9;
+pub const FATS: usize = 9;
 
 pub(crate) const DIR: usize = 10;
 
@@ -45,9 +45,9 @@ pub(crate) const MINIFAT: usize = 13;
 
 pub(crate) const MINIFATS: usize = 14;
 
-pub(crate) const DIFAT: usize = 15;
+pub const DIFAT: usize = 15;
 
-pub(crate) const DIFATS: usize = 16;
+pub const DIFATS: usize = 16;
 
 pub(crate) const ENTRIES: usize = 17;
 
@@ -98,7 +98,7 @@ pub(crate) fn number_at(b: &[u8], place: usize) -> u32
 }
 
 // Stores a number in a field, by the field's place in the table.
-pub(crate) fn put_number(buf: &mut [u8], place: usize, v: u32)
+pub fn put_number(buf: &mut [u8], place: usize, v: u32)
     requires { ⌜ 512 ≤ length (now buf) ⌝ }
     requires { ⌜ holdsNumber place ≡ true ⌝ }
     ensures { λ _. ⌜ now (buf .exit) ≡ splice (now (buf .entry)) (offsetOf place) (digits (widthOf place) v) ⌝ }

@@ -1,8 +1,8 @@
 // The header of a compound file (MS-CFB 2.2): a reader and a writer that go by one table of fields.
 // Both answer for every slice and every number; each refusal has document 01's number.
-mod content;
-mod entries;
-mod fields;
+pub mod content;
+pub mod entries;
+pub mod fields;
 mod judge;
 
 use content::content;

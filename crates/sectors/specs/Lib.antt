@@ -1,1 +1,2 @@
+pub mod Init
 pub mod Sectors

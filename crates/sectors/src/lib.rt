@@ -1,4 +1,6 @@
 // Sectors of an image, each lent as a slice of its own, and the entries in them (MS-CFB 2.3, 2.5).
+pub mod init;
+
 ghost use mathlib.Core.Path.{_≡_};
 ghost use Prim.Native.Nat.{_+_, _*_, _≤_};
 ghost use lib.ListN.{length};
