@@ -6,4 +6,7 @@ pub mod Judged
 pub mod Listing
 pub mod Reading
 pub mod Steps
+pub mod Stored
 pub mod Walking
+pub mod Writing
+pub mod Zeroed
