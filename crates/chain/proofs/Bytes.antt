@@ -40,7 +40,7 @@ module _ (S : ℕ) (f : ℕ → List ℕ) where
 
 -- the bytes of a chain whose sectors lie in the image
 module _ (S : ℕ) (img ids : List ℕ) (l : Lies S (length img) ids) where
-  pub sector-long : (j : ℕ) → j < length ids → length (sectorOf S img (getD ids j 0)) ≡ S
+  sector-long : (j : ℕ) → j < length ids → length (sectorOf S img (getD ids j 0)) ≡ S
   unfolding sectorOf
   sector-long j h = length-part img (startOf S (getD ids j 0)) S (l .inside j h)
 
