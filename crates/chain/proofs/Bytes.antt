@@ -53,7 +53,7 @@ module _ (S : ℕ) (img ids : List ℕ) (l : Lies S (length img) ids) where
   pub chain-place : (o : ℕ) → o < S * length ids → o / S < length ids
   chain-place o h = div-lt-iff-lt-mul (l .some) .1 (rw (mul-comm S (length ids)) at h)
 
-  chain-in : (q x : ℕ) → q < length ids → x < S → getD (chainBytes S img ids) (S * q + x) 0 ≡ getD (sectorOf S img (getD ids q 0)) x 0
+  pub chain-in : (q x : ℕ) → q < length ids → x < S → getD (chainBytes S img ids) (S * q + x) 0 ≡ getD (sectorOf S img (getD ids q 0)) x 0
   unfolding chainBytes
   chain-in = getD-joined S (sectorOf S img) ids sector-long
 

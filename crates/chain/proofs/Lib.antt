@@ -1,3 +1,4 @@
+pub mod Apart
 pub mod Bytes
 pub mod Chains
 pub mod Examples
@@ -6,4 +7,7 @@ pub mod Judged
 pub mod Listing
 pub mod Reading
 pub mod Steps
+pub mod Stored
 pub mod Walking
+pub mod Writing
+pub mod Zeroed

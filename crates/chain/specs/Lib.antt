@@ -1,4 +1,5 @@
 pub mod Bytes
 pub mod Steps
+pub mod Stores
 pub mod Walk
 pub mod Walked

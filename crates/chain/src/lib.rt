@@ -1,4 +1,6 @@
 // A chain of sectors (document 01, Calls on a chain): the walk that lists it, and the reading of its bytes.
+pub mod stores;
+
 use fat::load::lesser;
 ghost use mathlib.Core.Path.{_≡_};
 ghost use Prim.Native.Nat.{_+_, _*_, _≤_, _<_};
