@@ -1,3 +1,4 @@
+pub mod Change
 pub mod Disk
 pub mod Fits
 pub mod Hand

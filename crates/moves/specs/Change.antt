@@ -1,0 +1,67 @@
+-- What a change makes of a chain in hand (document 01, Write, Resize and Free), over the sector's length S. Assumes nothing.
+use Prim.Native.Nat.{ℕ, _+_, _-_}
+use mathlib.Core.List.{List}
+use lib.Dec.{eqb, ltb}
+use lib.ListN.{length, getD, take}
+use Rattle.lists.specs.Lists.{choose}
+use Rattle.consts.specs.Consts.{endOfChain}
+use Rattle.fat.specs.Lists.{ceil}
+use Rattle.alloc.specs.Opened.{padded}
+use Rattle.chain.specs.Stores.{writeBytes, zeroTail}
+use Rattle.moves.specs.Hand.{Hand, Chain, point, freeRun, extend}
+
+-- the last of the first m sectors ends the chain
+unfoldable pub cut : ℕ → Hand → List ℕ → ℕ → Hand
+unfolding point
+cut S h ids m = choose (eqb m 0) h (point S h (getD ids (m - 1) 0) endOfChain)
+
+-- document 01, Resize: the tail behind m sectors is freed, in chain order
+unfoldable pub shrink : ℕ → Chain → ℕ → Chain
+unfolding cut freeRun padded
+shrink S c m =
+    choose (ltb m (c .count))
+    (record { hand = freeRun S (cut S (c .hand) (c .ids) m) (c .ids) m (c .count - m); ids = padded (take m (c .ids)) (length (c .ids)); count = m })
+    c
+
+-- a chain whose image holds other bytes
+unfoldable pub withImage : Chain → List ℕ → Chain
+withImage c img =
+    record {
+      hand =
+          record {
+            disk = record { image = img; fat = c .hand .disk .fat; fats = c .hand .disk .fats; difats = c .hand .disk .difats; sectors = c .hand .disk .sectors };
+            frees = c .hand .frees;
+            free = c .hand .free;
+            marks = c .hand .marks;
+          };
+      ids = c .ids;
+      count = c .count;
+    }
+
+-- the ids of a chain in hand
+unfoldable pub idsOf : Chain → List ℕ
+idsOf c = take (c .count) (c .ids)
+
+-- document 01, Resize: how many sectors the new length asks for more than there are
+unfoldable pub resizeMore : ℕ → ℕ → ℕ → ℕ
+unfolding ceil
+resizeMore S count len = ceil len S - count
+
+-- document 01, Resize: more: zero sectors; fewer or as many: the tail is freed, and bytes from the new length to the end of its sector are zeroed
+unfoldable pub resized : ℕ → Chain → ℕ → Chain
+unfolding ceil shrink extend withImage idsOf zeroTail resizeMore
+resized S c len =
+    choose (ltb (c .count) (ceil len S)) (extend S c (resizeMore S (c .count) len))
+    (withImage (shrink S c (ceil len S)) (zeroTail S (shrink S c (ceil len S) .hand .disk .image) (idsOf (shrink S c (ceil len S))) len))
+
+-- document 01, Write: how many sectors a write of so many bytes from an offset on asks for more than there are
+unfoldable pub writeMore : ℕ → ℕ → ℕ → ℕ → ℕ
+unfolding ceil
+writeMore S count offset bytes = ceil (offset + bytes) S - count
+
+-- document 01, Write: the chain grows to cover offset plus buffer, new bytes past the end are zero, all bytes are written
+unfoldable pub written : ℕ → Chain → ℕ → List ℕ → Chain
+unfolding extend withImage idsOf writeBytes writeMore
+written S c offset buf =
+    let grown = extend S c (writeMore S (c .count) offset (length buf)) in
+    withImage grown (writeBytes S (grown .hand .disk .image) (idsOf grown) offset buf)
