@@ -13,24 +13,6 @@ use Rattle.chain.specs.declared.Walked.{Walked}
 use Rattle.chain.specs.declared.Walked.the-variants.{Listed, Refused}
 use Rattle.cfb.specs.Listed.{cleared}
 
--- zeros put over all that lies past a place
-pub zeroed-past : (xs run : List ℕ) (from : ℕ) → from < length xs → run ≡ replicate (length (take (length xs - from) (drop from xs))) 0
-    → putMid from (length xs - from) xs run ≡ padded (take from xs) (length xs)
-unfolding splice padded
-zeroed-past xs run from h e =
-    let l : length (take (length xs - from) (drop from xs)) ≡ length xs - from = length-take-le (length xs - from) (drop from xs) (omega (arith, length-drop from xs)) in
-    let long : length run ≡ length xs - from = ap length e ∙ length-replicate {A = ℕ} _ 0 ∙ l in
-    let front : length (take from xs) ≡ from = length-take-le from xs (omega arith) in
-    let rest : drop (from + length run) xs ≡ [] = drop-of-length-le xs {i = from + length run} (omega arith) in
-    putMid-splice from (length xs - from) xs run long ∙ rw (rest, append-nil run, front, e, l)
-
--- nothing lies past a place at the end
-pub zeroed-none : (xs : List ℕ) (from : ℕ) → length xs ≤ from → xs ≡ padded (take from xs) (length xs)
-unfolding padded
-zeroed-none xs from h =
-    let none : length xs - length xs ≡ 0 = omega arith in
-    rw (take-all from xs h, none) (sym (append-nil xs))
-
 -- zeros past the ids of a walk, and beside a refusal nothing else
 pub cleared-listed : (w : Walked) (count : ℕ) (ids after : List ℕ) → w ≡ Listed count → after ≡ padded (take count ids) (length ids) → after ≡ cleared w ids
 unfolding cleared

@@ -1,4 +1,5 @@
 pub mod Calls
 pub mod Causes
+pub mod Changes
 pub mod Face
 pub mod Listed

@@ -25,6 +25,11 @@ cleared (Refused k) ids = padded [] (length ids)
 unfoldable pub walkedAs : ℕ → ℕ → Walked
 walkedAs k count = choose (eqb k 0) (Listed count) (Refused k)
 
+-- the number of a listing's answer: 0 where ids are listed
+unfoldable pub walkedNo : Walked → ℕ
+walkedNo (Listed count) = 0
+walkedNo (Refused k) = k
+
 -- the answer of a call by what its walk answers: a refusal is handed on
 unfoldable pub answerFrom : Walked → ℕ → ℕ → Answer
 answerFrom (Listed count) start bytes = Done count start bytes

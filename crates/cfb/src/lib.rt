@@ -1,15 +1,25 @@
 // The public face: an image is opened into a state and lent tables, and the state goes from call to call.
 mod calls;
+mod changes;
 
 use alloc::open::open_tables;
 use calls::answer_of;
 use calls::chain_of;
 use chain::Walked;
+use changes::change_of;
+use changes::done_with;
+use changes::no_room;
+use changes::refuse;
 use header::Header;
 use header::Validation;
 use header::Version;
+use moves::change::set_len;
+use moves::change::write as write_chain;
+use moves::room::sectors_over;
+use moves::room::sectors_past;
 ghost use mathlib.Core.Path.{_≡_};
 ghost use Rattle.cfb.specs.Calls.{ChainOpens, ChainReads};
+ghost use Rattle.cfb.specs.Changes.{ChainWrites, ChainResizes};
 ghost use Rattle.cfb.specs.Face.{numberOf, noState, Opens};
 
 // The answer of an opening: how many sectors the image has and how many of them are FREE, or the number of the refusal.
@@ -190,5 +200,122 @@ impl State {
             },
             state: self,
         }
+    }
+
+    // Writes all of `buf` over a chain's bytes from a byte on; the chain grows to cover them, and what is new past its old end is zero. Refusals 11, 19, 26, 20, 21, 22, 25, 23 and 24, in this order, for an empty `buf` too: each leaves all but `ids` as it was, which are as after `open_chain`.
+    pub fn write(
+        self,
+        image: &mut [u8],
+        fat: &mut [u32],
+        fats: &mut [u32],
+        difats: &mut [u32],
+        frees: &mut [u32],
+        marks: &mut [u8],
+        ids: &mut [u32],
+        start: u32,
+        offset: u64,
+        buf: &[u8],
+    ) -> Called
+        ensures { λ r. ⌜ ChainWrites self (now (image .entry)) (record { fat = now (fat .entry); fats = now (fats .entry); difats = now (difats .entry); frees = now (frees .entry); marks = now (marks .entry) }) (now (ids .entry)) start offset (now (buf .entry)) r (now (image .exit)) (record { fat = now (fat .exit); fats = now (fats .exit); difats = now (difats .exit); frees = now (frees .exit); marks = now (marks .exit) }) (now (ids .exit)) ⌝ }
+    {
+        let walked = change_of(self, image, fat, fats, difats, frees, marks, ids, start);
+        let Walked::Listed(count) = walked else {
+            let answer = answer_of(walked, start);
+            return Called {
+                answer,
+                state: self,
+            };
+        };
+        let version = self.version();
+        let s = version.sector_len();
+        if ((s * count) as u64) < offset {
+            return refuse(self, ids, 23);
+        }
+        let at = offset as usize;
+        if no_room(self, image.len(), sectors_past(s, count, at, buf.len())) {
+            return refuse(self, ids, 24);
+        }
+        let n = self.sectors;
+        let free = self.free;
+        let changed = write_chain(
+            image,
+            s,
+            n,
+            free,
+            fat,
+            fats,
+            difats,
+            frees,
+            marks,
+            ids,
+            count,
+            at,
+            buf,
+        );
+        done_with(self, image, ids, changed, buf.len())
+    }
+
+    // Resizes a chain to the sectors that so many bytes ask for: sectors more are zero; fewer are freed, and bytes past the new length in its last sector are zeroed. Refusals 11, 19, 26, 20, 21, 22, 25 and 24, in this order, for a resize without effect too: each leaves all but `ids` as it was.
+    pub fn resize(
+        self,
+        image: &mut [u8],
+        fat: &mut [u32],
+        fats: &mut [u32],
+        difats: &mut [u32],
+        frees: &mut [u32],
+        marks: &mut [u8],
+        ids: &mut [u32],
+        start: u32,
+        len: u64,
+    ) -> Called
+        ensures { λ r. ⌜ ChainResizes self (now (image .entry)) (record { fat = now (fat .entry); fats = now (fats .entry); difats = now (difats .entry); frees = now (frees .entry); marks = now (marks .entry) }) (now (ids .entry)) start len r (now (image .exit)) (record { fat = now (fat .exit); fats = now (fats .exit); difats = now (difats .exit); frees = now (frees .exit); marks = now (marks .exit) }) (now (ids .exit)) ⌝ }
+    {
+        let walked = change_of(self, image, fat, fats, difats, frees, marks, ids, start);
+        let Walked::Listed(count) = walked else {
+            let answer = answer_of(walked, start);
+            return Called {
+                answer,
+                state: self,
+            };
+        };
+        let version = self.version();
+        let s = version.sector_len();
+        if no_room(self, image.len(), sectors_over(s, count, len)) {
+            return refuse(self, ids, 24);
+        }
+        let n = self.sectors;
+        let free = self.free;
+        let changed = set_len(
+            image,
+            s,
+            n,
+            free,
+            fat,
+            fats,
+            difats,
+            frees,
+            marks,
+            ids,
+            count,
+            len,
+        );
+        done_with(self, image, ids, changed, 0)
+    }
+
+    // Frees a whole chain: resizes it to 0.
+    pub fn free(
+        self,
+        image: &mut [u8],
+        fat: &mut [u32],
+        fats: &mut [u32],
+        difats: &mut [u32],
+        frees: &mut [u32],
+        marks: &mut [u8],
+        ids: &mut [u32],
+        start: u32,
+    ) -> Called
+        ensures { λ r. ⌜ ChainResizes self (now (image .entry)) (record { fat = now (fat .entry); fats = now (fats .entry); difats = now (difats .entry); frees = now (frees .entry); marks = now (marks .entry) }) (now (ids .entry)) start 0 r (now (image .exit)) (record { fat = now (fat .exit); fats = now (fats .exit); difats = now (difats .exit); frees = now (frees .exit); marks = now (marks .exit) }) (now (ids .exit)) ⌝ }
+    {
+        self.resize(image, fat, fats, difats, frees, marks, ids, start, 0)
     }
 }

@@ -1,5 +1,7 @@
 -- What a change makes of a chain in hand (document 01, Write, Resize and Free), over the sector's length S. Assumes nothing.
-use Prim.Native.Nat.{ℕ, _+_, _-_}
+use Prim.Native.Nat.{ℕ, _+_, _-_, _*_, _≤_, _<_}
+use mathlib.Core.Path.{_≡_}
+use mathlib.Core.Logic.{_≢_}
 use mathlib.Core.List.{List}
 use lib.Dec.{eqb, ltb}
 use lib.ListN.{length, getD, take}
@@ -8,6 +10,7 @@ use Rattle.consts.specs.Consts.{endOfChain}
 use Rattle.fat.specs.Lists.{ceil}
 use Rattle.alloc.specs.Opened.{padded}
 use Rattle.chain.specs.Stores.{writeBytes, zeroTail}
+use Rattle.moves.specs.Fits.{FitsChain, FitsMore}
 use Rattle.moves.specs.Hand.{Hand, Chain, point, freeRun, extend}
 
 -- the last of the first m sectors ends the chain
@@ -65,3 +68,25 @@ unfolding extend withImage idsOf writeBytes writeMore
 written S c offset buf =
     let grown = extend S c (writeMore S (c .count) offset (length buf)) in
     withImage grown (writeBytes S (grown .hand .disk .image) (idsOf grown) offset buf)
+
+-- no sector is listed twice, in the chain, in the free list, or in both
+pub record Apart (c : Chain) : Type 0 where
+  pub ids-once : (i j : ℕ) → i < c .count → j < c .count → getD (c .ids) i 0 ≡ getD (c .ids) j 0 → i ≡ j
+  pub frees-once : (i j : ℕ) → i < c .hand .free → j < c .hand .free → getD (c .hand .frees) i 0 ≡ getD (c .hand .frees) j 0 → i ≡ j
+  pub ids-frees : (i j : ℕ) → i < c .count → j < c .hand .free → getD (c .ids) i 0 ≢ getD (c .hand .frees) j 0
+
+-- a chain that can be cut behind m of its sectors
+pub record FitsShrink (S R m : ℕ) (c : Chain) : Type 0 where
+  pub fits : FitsChain S R c
+  pub within : m ≤ c .count
+
+-- a chain that can be resized: 24 was decided by the sectors that there are then
+pub record FitsResize (S R len : ℕ) (c : Chain) : Type 0 where
+  pub fits : FitsMore S R (resizeMore S (c .count) len) c
+  pub apart : Apart c
+
+-- a chain that can be written, likewise, from an offset that is not past its end
+pub record FitsWrite (S R offset bytes : ℕ) (c : Chain) : Type 0 where
+  pub fits : FitsMore S R (writeMore S (c .count) offset bytes) c
+  pub apart : Apart c
+  pub seeks : offset ≤ S * c .count

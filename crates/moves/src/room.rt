@@ -6,7 +6,7 @@ ghost use mathlib.Core.Bool.{Bool};
 ghost use lib.Dec.{leb};
 ghost use Rattle.sectors.specs.Sectors.{perSector};
 ghost use Rattle.fat.specs.Lists.{most, ceil as ceilOf};
-ghost use Rattle.moves.specs.Change.{writeMore};
+ghost use Rattle.moves.specs.Change.{resizeMore, writeMore};
 ghost use Rattle.moves.specs.Disk.{oneMore, countAfter};
 
 // How many sectors so many bytes ask for.
@@ -20,6 +20,18 @@ pub fn sectors_for(s: usize, bytes: u64) -> usize
         return whole as usize;
     }
     (whole + 1) as usize
+}
+
+// How many sectors so many bytes ask for more than a chain of count has.
+pub fn sectors_over(s: usize, count: usize, bytes: u64) -> usize
+    requires { ⌜ 2 ≤ s ⌝ }
+    ensures { λ r. ⌜ r ≡ resizeMore s count bytes ⌝ }
+{
+    let need = sectors_for(s, bytes);
+    if need <= count {
+        return 0;
+    }
+    need - count
 }
 
 // How many sectors a write of so many bytes from an offset within a chain of count sectors on asks for more.

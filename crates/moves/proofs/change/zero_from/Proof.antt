@@ -1,8 +1,8 @@
 -- What lies past the place is filled with zeros; at the end there is nothing to fill.
 use borrow.Author.Needs.{needs}
-use Rattle.cfb.proofs.Clearing.{zeroed-past, zeroed-none}
-use Rattle.cfb.proofs.calls.zero_from.Statement.{statement}
-use Rattle.cfb.proofs.calls.zero_from.Tie as tie
+use Rattle.moves.proofs.Zeros.{zeroed-past, zeroed-none}
+use Rattle.moves.proofs.change.zero_from.Statement.{statement}
+use Rattle.moves.proofs.change.zero_from.Tie as tie
 
 mul-fill32 : tie.Need-mul-fill32
 mul-fill32 c = search needs

@@ -1,0 +1,18 @@
+use borrow.Author.Needs.{needs}
+use Rattle.moves.proofs.room.sectors_over.Statement.{statement}
+use Rattle.moves.proofs.room.sectors_over.Tie as tie
+
+sectors-for-requires : tie.Need-sectors-for-requires
+sectors-for-requires c κs = search needs
+
+returns : tie.Need-returns
+returns c = ?h1
+
+sub-result : tie.Need-sub-result
+sub-result c = search needs
+
+returns-2 : tie.Need-returns-2
+returns-2 c = ?h2
+
+pub sectors-over-spec : {M : Type 1} → statement M
+sectors-over-spec = tie.close (tie.spec sectors-for-requires returns sub-result returns-2)
