@@ -3,8 +3,8 @@
 use crate::calls::{make_odd, one_chain};
 use crate::changed::{Change, Holding};
 use crate::inputs::{END, FREE, REGULAR_LAST};
-use crate::layout::{Layout, FAT};
-use crate::openings::room;
+use crate::layout::{self, Layout, FAT};
+use crate::openings::{self, room};
 use crate::random::Random;
 
 /// A random image that opens strictly, its last bytes other than all that is before: chains, one long chain, loops, stray
@@ -155,4 +155,55 @@ pub fn permute(random: &mut Random, holding: &mut Holding) {
         1 => frees.rotate_left(count / 2),
         _ => (1..count).for_each(|i| frees.swap(i, random.below(i + 1))),
     }
+}
+
+/// A buffer of this length, its bytes other than those of an image.
+pub fn buffer(length: usize) -> Vec<u8> {
+    (0..length).map(|i| 0x21 + (i % 0x5d) as u8).collect()
+}
+
+/// Changes around every edge of a chain of so many sectors.
+fn each_change(length: usize, sectors: usize) -> Vec<Change> {
+    let end = (sectors * length) as u64;
+    let mut offsets = vec![0, 1, end.saturating_sub(1), end, end + 1, u64::MAX];
+    let counts = [0, 1, length - 1, length, length + 1, 2 * length];
+    let step = length as u64;
+    let mut lengths = vec![0, 1, step - 1, step, step + 1, end.saturating_sub(step), end.saturating_sub(1), end];
+    lengths.extend([end + 1, end + step, end + step + 1, end + 2 * step, end + 2 * step + 1, end + 3 * step]);
+    lengths.extend([1 << 63, u64::MAX - step + 1, u64::MAX - step + 2, u64::MAX]);
+    for list in [&mut offsets, &mut lengths] {
+        list.sort_unstable();
+        list.dedup();
+    }
+    let writes = offsets.into_iter().flat_map(|at| counts.map(|count| Change::Write(at, buffer(count))));
+    writes.chain(lengths.into_iter().map(Change::Resize)).chain([Change::Free]).collect()
+}
+
+/// Shows changes around every edge of the chain from each sector, from END, and from three starts that are none.
+pub fn each(holding: &Holding, see: &mut impl FnMut(u32, &Change)) {
+    let n = holding.n() as u32;
+    for start in (0..=n).chain([REGULAR_LAST, END, FREE]) {
+        let sectors = holding.listed(start).unwrap_or(1);
+        each_change(holding.length(), sectors).iter().for_each(|change| see(start, change));
+    }
+}
+
+/// Shows every image of n sectors that opens strictly, its FAT sector at this place, lent with so many sectors more.
+pub fn every_fat(version: u16, n: usize, place: usize, more: usize, see: &mut impl FnMut(&Holding)) {
+    openings::every_fat(version, n, place, &mut |case| {
+        if case.mode == 1 {
+            let mut image = case.image.to_vec();
+            image.resize(case.used + more * layout::length_of(version), 0x99);
+            if let Some(holding) = Holding::of(image, case.used, 1, [n + more; 5]) {
+                see(&holding);
+            }
+        }
+    });
+}
+
+/// An image with n sectors of which none is FREE: those that are not of the tables are one chain, upward or downward or
+/// mixed. It is lent with so many sectors more.
+pub fn full(random: &mut Random, version: u16, n: usize, more: usize) -> Holding {
+    let layout = one_chain(random, version, n);
+    Holding::strict(layout.noisy(random), more)
 }
