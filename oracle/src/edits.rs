@@ -48,8 +48,8 @@ pub fn start(random: &mut Random, holding: &Holding) -> u32 {
     let n = holding.n();
     match random.below(24) {
         0..=2 => END,
-        3 => random.below(n + 1) as u32,
-        4 if random.once_in(4) => random.pick(&[n as u32, n as u32 + 1, REGULAR_LAST, FAT, FREE, 1 << 31]),
+        3 | 4 => random.below(n + 1) as u32,
+        5 if random.once_in(4) => random.pick(&[n as u32, n as u32 + 1, REGULAR_LAST, FAT, FREE, 1 << 31]),
         _ => head(random, holding).unwrap_or(END),
     }
 }
@@ -61,9 +61,12 @@ fn edge(random: &mut Random, length: usize, sectors: usize) -> u64 {
 }
 
 /// Numbers of bytes that no image has room for.
-pub const TOO_LONG: [u64; 12] = [
+pub const TOO_LONG: [u64; 15] = [
+    (1 << 28) + 4096,
     1 << 32,
     (1 << 32) + 1,
+    (1 << 41) + 512,
+    (1 << 44) + 4096,
     1 << 55,
     (1 << 55) + 1,
     1 << 63,

@@ -66,9 +66,15 @@ fn fourth_version() {
 /// Images of version 3 whose last FAT sector is about full.
 #[test]
 fn around_a_fat_sector() {
-    let tally = lists("changes around 128", 50_000, 3, |random| 120 + random.below(12) + 128 * random.below(2));
+    let mut tally = lists("changes around 128", 40_000, 3, |random| 120 + random.below(12) + 128 * random.below(2));
     is_mixed(&tally, 300);
-    println!("{tally:?}");
+    let mut random = Random::new("changes around 128, full");
+    while tally.answers[0] < 60_000 {
+        let (n, more) = (122 + random.below(8) + 128 * random.below(2), 1 + random.below(12));
+        let mut both = Both::of(edits::full(&mut random, 3, n, more));
+        list(&mut tally, &mut random, &mut both, 10, 5);
+    }
+    assert!(tally.added[0] > 500, "{tally:?}");
 }
 
 /// The free list in random orders, on both sides, before every change.
@@ -86,7 +92,6 @@ fn permuted_free_lists() {
         }
     }
     is_mixed(&tally, 1_000);
-    println!("{tally:?}");
 }
 
 /// Every image of at most 3 sectors that opens strictly, with room for none, one and three more: changes around every edge
@@ -107,7 +112,12 @@ fn every_small_image() {
     for (n, place) in [(0, 0), (1, 0), (2, 1)] {
         edits::every_fat(4, n, place, 1, &mut see);
     }
-    println!("{tally:?}");
+    let expected = [7_979, 68_238, 50_592, 6_783, 6_948, 5_736, 918];
+    assert_eq!([0, 20, 21, 22, 23, 24, 25].map(|number| tally.answers[number]), expected);
+    assert_eq!(
+        (tally.compared(), tally.kinds, tally.effects),
+        (147_194, [4_325, 3_075, 579], [5_884, 1_308, 3_632, 320])
+    );
 }
 
 /// Q with room for some more sectors: every change around an edge, and after it every other one.
@@ -136,7 +146,11 @@ fn every_two() {
             }
         }
     }
-    println!("{tally:?}");
+    assert_eq!([0, 21, 23, 24].map(|number| tally.answers[number]), [20_264, 2_952, 4_788, 1_888]);
+    assert_eq!(
+        (tally.compared(), tally.kinds, tally.effects),
+        (29_892, [11_438, 8_070, 756], [16_802, 8_186, 1_788, 3_136])
+    );
 }
 
 /// Grows a chain of a full image and a new one over the end of the last FAT sector in several ways, and goes on at random.
@@ -167,7 +181,7 @@ fn around_the_first_difat_sector() {
     for n in [13_948, 13_951, 13_952] {
         grown(&mut tally, &mut random, 3, n, 30);
     }
-    println!("{tally:?}");
+    assert!(tally.answers[0] > 60 && tally.added.iter().all(|&added| added >= 10), "{tally:?}");
 }
 
 /// Images of version 3 in which the next FAT sector is one more in the DIFAT sector.
@@ -175,10 +189,10 @@ fn around_the_first_difat_sector() {
 fn around_a_further_difat_place() {
     let mut tally = Tally::default();
     let mut random = Random::new("changes further DIFAT");
-    for n in [14_077, 14_080, 16_250] {
+    for n in [14_077, 14_080, 16_255] {
         grown(&mut tally, &mut random, 3, n, 30);
     }
-    println!("{tally:?}");
+    assert!(tally.answers[0] > 60 && tally.added[0] >= 11 && tally.added[1] == 0, "{tally:?}");
 }
 
 /// Images with almost as many sectors as may be, lent with room for more.
@@ -189,7 +203,7 @@ fn around_the_most_sectors() {
     for n in [16_379, 16_382, 16_384] {
         grown(&mut tally, &mut random, 3, n, 16_390 - n);
     }
-    println!("{tally:?}");
+    assert!(tally.answers[0] > 40 && tally.answers[24] >= 8, "{tally:?}");
 }
 
 /// Images of version 4 whose last FAT sector is about full.
@@ -200,7 +214,7 @@ fn fourth_around_a_fat_sector() {
     for n in [1_020, 1_023, 1_024] {
         grown(&mut tally, &mut random, 4, n, 20);
     }
-    println!("{tally:?}");
+    assert!(tally.answers[0] > 60 && tally.added[0] >= 10 && tally.added[1] == 0, "{tally:?}");
 }
 
 /// A first DIFAT sector of FREE reads as END, and its bytes stay until there is one.
