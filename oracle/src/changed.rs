@@ -118,6 +118,9 @@ impl Outcome {
         assert_eq!(self.answer, [count as u64, start.into(), written as u64]);
         let nexts = ids.iter().skip(1).copied().chain([END]);
         assert!(ids.iter().zip(nexts).all(|(&id, next)| after.tables.fat[id as usize] == next), "no chain {ids:?}");
+        if let Change::Write(offset, buf) = call.change {
+            after.has(ids, *offset, buf);
+        }
         let used = after.state[abi::USED] as usize;
         assert!(before.image[used..] == after.image[used..], "the image past its end was written");
         let [old, new] = [before, after].map(Holding::other_bytes);
@@ -194,6 +197,17 @@ impl Holding {
             }
         }
         Some(count)
+    }
+
+    /// A buffer that was written to a chain is there.
+    fn has(&self, ids: &[u32], offset: u64, buf: &[u8]) {
+        let (mut at, mut left) = (offset as usize, buf);
+        while !left.is_empty() {
+            let sector = &self.sector(ids[at / self.length()])[at % self.length()..];
+            let (part, rest) = left.split_at(left.len().min(sector.len()));
+            assert!(sector.starts_with(part), "not what was written");
+            (at, left) = (at + part.len(), rest);
+        }
     }
 
     /// The header's bytes that no change of a chain touches: all but three fields, two of them before the list, and it.

@@ -1,8 +1,8 @@
 //! Lists of changes held against the Rust of cfb, which goes through each list on an allocator and bytes of its own.
 //!
-//! Where ours changes, the Rust does: ids, FAT, both lists, the free list in its order and every byte are the same. Where ours
-//! refuses by 20 to 23 the Rust refuses by the same cause. The Rust is not asked where it has no such refusal: it is lent
-//! nothing (11, 19), has no room that could end (24), and changes from the middle of a chain (25).
+//! Where ours changes, the Rust does: ids, FAT, both lists, the free list in its order and every byte are the same. Where
+//! ours refuses by 20 to 23 the Rust refuses by the same cause. The Rust is not asked where it has no such refusal: it is
+//! lent nothing (11, 19), has no room that could end (24), and changes from the middle of a chain (25).
 
 use crate::asked;
 use crate::changed::{self, Call, Change, Holding, Outcome};
@@ -83,6 +83,11 @@ impl Tally {
     /// How many calls were made.
     pub fn compared(&self) -> u64 {
         self.answers.iter().sum()
+    }
+
+    /// How many were refused.
+    pub fn refused(&self) -> u64 {
+        self.compared() - self.answers[0]
     }
 
     /// Each of these answers was met so often.

@@ -34,8 +34,9 @@ fn lists(name: &str, changes: u64, version: u16, sectors: impl Fn(&mut Random) -
     tally
 }
 
-/// Each kind, each effect and each refusal was met so often.
+/// Each kind and each effect was met so often, and each refusal; there is a refusal for four changes at least.
 fn is_mixed(tally: &Tally, times: u64) {
+    assert!(tally.refused() > tally.answers[0] / 4, "{tally:?}");
     assert!(tally.kinds.iter().chain(&tally.effects).all(|&count| count >= times), "{tally:?}");
     tally.has([20, 21, 22, 23, 24, 25], times.min(20));
 }

@@ -278,7 +278,7 @@ fn around_the_room() {
         let mut held = edits::full(&mut random, version, n, total - n + 1);
         let length = held.length();
         let (start, end) = only_chain(&held);
-        for (less, numbers) in [(0, [0, 0]), (1, [0, 0]), (2, [24, 24])] {
+        for (less, number) in [(0, 0), (1, 0), (2, 24)] {
             held.image.truncate((total + 2 - less) * length);
             let grown = end + (wanted * length) as u64;
             for (start, change) in [
@@ -289,7 +289,7 @@ fn around_the_room() {
                 (END, Change::Resize((wanted * length) as u64)),
             ] {
                 let (after, outcome) = after(&held, start, change);
-                assert_eq!(outcome.number, numbers[usize::from(start == END)], "{version} {n} {wanted} {less}");
+                assert_eq!(outcome.number, number, "{version} {n} {wanted} {less}");
                 assert_eq!(after.n(), if outcome.number == 0 { total } else { n });
             }
         }
@@ -337,7 +337,7 @@ fn too_long() {
     assert_eq!(compared, 2_382);
 }
 
-/// The largest room: 16,382 data sectors are one too many beside 128 FAT sectors and a DIFAT sector.
+/// The largest room has 16,255 data sectors, beside 128 FAT sectors and a DIFAT sector, and no more.
 #[test]
 fn all_of_the_room() {
     let header = Holding::strict(Layout::plain(3, 0).bytes(), 16_400);
@@ -538,7 +538,7 @@ fn every_word_of_the_state() {
             }
         });
     });
-    assert!(tally.0[19] > 40_000 && modes > 20 && rooms > 8, "{tally:?} {modes} {rooms}");
+    assert!(tally.0[19] > 50_000 && modes > 20 && rooms > 8, "{tally:?} {modes} {rooms}");
 }
 
 /// 19: every element of every table, changed alone, those past its count and past the room too; free lists that are not the
@@ -557,7 +557,7 @@ fn every_element_of_the_tables() {
             assert_eq!(tampered(&mut tally, opened, &opened.state, tables, &mut round) == 19, !free);
         });
     });
-    assert!(tally.0[19] > 20_000, "{tally:?}");
+    assert!(tally.0[19] > 30_000, "{tally:?}");
 }
 
 /// Q with its tables and state after every change of a byte of its header and FAT: 19, or the byte has no part in them.
@@ -612,6 +612,28 @@ fn every_length() {
         }
     }
     assert_eq!((tally.compared(), tally.0[11], tally.0[19]), (47_604, 44_688, 0));
+}
+
+/// The image lent shorter than it was, or longer: the room goes by that, and then 19 where less is lent than is used.
+#[test]
+fn lent_lengths() {
+    let mut tally = Tally::default();
+    for (version, n) in [(3, 0), (3, 6), (4, 1)] {
+        let held = Holding::strict(Layout::plain(version, n).bytes(), 3);
+        let (length, used) = (held.length(), held.used().len());
+        for edge in 0..=n + 4 {
+            for lent in [edge * length, edge * length + 1, edge * length + 511, (edge + 1) * length - 1] {
+                let mut copy = held.clone();
+                copy.image.resize(lent, 0);
+                copy.tables = resized(&held.tables, &[n + 2; 5]);
+                let call = Call { ids: &scratch(edge, n + 2), start: END, change: &Change::Resize(1) };
+                let number = tally.see(&mut copy, &call);
+                assert_eq!(number == 11, room(version, lent) > n + 2);
+                assert_eq!(number == 19, lent < used);
+            }
+        }
+    }
+    assert_eq!([0, 11, 19, 24].map(|number| tally.0[number]), [24, 12, 40, 12]);
 }
 
 /// Words that are no state are 19 before 11, and the ids are zero then; the words stay.
