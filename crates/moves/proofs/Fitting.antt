@@ -96,10 +96,10 @@ place-kept S R k p d id small l room f =
     (below-or p 109)
 
 -- the next sector as a FAT sector: new, listed, marked
-abbrev fatNew : ℕ → Disk → Disk
+abbrev pub fatNew : ℕ → Disk → Disk
 fatNew S d = store d (startOf S (d .sectors)) (initBytes S Fat)
 
-abbrev fatMarked : ℕ → Disk → Disk
+abbrev pub fatMarked : ℕ → Disk → Disk
 fatMarked S d = pushFat S (listFat (fatNew S d) (d .sectors / perSector S) (d .sectors)) fatSector
 
 -- what a full FAT comes to
@@ -116,8 +116,10 @@ module _ (S R : ℕ) (d : Disk) (f : FitsFat S R d) where
   pub full-place : d .sectors / perSector S < R
   full-place = omega (arith, div-le-self (d .sectors) (perSector S), full-room)
 
-  pub marked-place : suc (d .sectors) / perSector S < suc (d .sectors / perSector S)
-  marked-place = omega (arith, ap (λ (n : ℕ). n / perSector S) (add-one (d .sectors)), div-near (perSector S) (omega (arith, full-many)) (d .sectors) 1 (f .full) (omega (arith, full-many)))
+  pub marked-same : suc (d .sectors) / perSector S ≡ d .sectors / perSector S
+  marked-same =
+      ap (λ (n : ℕ). n / perSector S) (sym (add-one (d .sectors)))
+      ∙ div-near (perSector S) (omega (arith, full-many)) (d .sectors) 1 (f .full) (omega (arith, full-many))
 
   pub marked-room : needsDifat S (d .sectors / perSector S) ≡ true → suc (d .sectors) < R
   marked-room t = omega (arith, after-needs S (d .sectors) t, f .room)
@@ -134,7 +136,7 @@ module _ (S R : ℕ) (d : Disk) (f : FitsFat S R d) where
       let k = d .sectors / perSector S in
       kept-then S R (suc k) (difatCount S k) (suc k) (difatCount S (suc k)) d (fatMarked S d) (appendFat S d) marked-kept (λ g.
       kept-then S R (suc k) (difatCount S (suc k)) (suc k) (difatCount S (suc k)) (fatMarked S d) (listPlace S (fatMarked S d) k (d .sectors)) (appendFat S d)
-      (place-kept S R (suc k) k (fatMarked S d) (d .sectors) full-place marked-place marked-room g) (λ h.
+      (place-kept S R (suc k) k (fatMarked S d) (d .sectors) full-place (omega (arith, marked-same)) marked-room g) (λ h.
       number-kept S R (suc k) (difatCount S (suc k)) (listPlace S (fatMarked S d) k (d .sectors)) h (offsetOf fatsAt) (k + 1)
       (omega (arith, header-inside S R _ _ (listPlace S (fatMarked S d) k (d .sectors)) h, h .header))))
 
