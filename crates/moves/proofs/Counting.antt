@@ -1,18 +1,18 @@
 -- The laws of counts that are rounded up: of the FAT's sectors and the DIFAT's (document 01, k and d). Assumes nothing.
-use Prim.Native.Nat.{ℕ, zero, suc, _+_, _-_, _*_, _/_, _%_, _≤_, _<_}
-use mathlib.Core.Path.{_≡_, refl, sym, _∙_, ap}
+use Prim.Native.Nat.{ℕ, suc, _+_, _-_, _*_, _/_, _%_, _≤_, _<_}
+use mathlib.Core.Path.{_≡_, sym, _∙_, ap}
 use mathlib.Core.Bool.{true, false}
-use mathlib.Core.Logic.{_⊎_, inl, inr, ⊎-elim, _≢_}
+use mathlib.Core.Logic.{_⊎_, ⊎-elim, _≢_}
 use native.Mathlib.Omega.{arith}
 use native.Mathlib.Nat.{mul-comm, suc-mul, add-mul, one-mul, mul-le-mul-right, div-mul-le-self, lt-div-mul-add, div-add-mod, div-eq-of-lt-le, div-lt-iff-lt-mul}
 use borrow.Author.Tests.{le-leb, lt-leb, leb-true, eq-eqb, ne-eqb}
 use lib.Dec.{leb}
-use Rattle.lists.specs.Lists.{choose, both}
-use Rattle.lists.proofs.Cases.{below-or, same-or, true-or, both-left, both-right, both-true, not-both}
+use Rattle.lists.specs.Lists.{both}
+use Rattle.lists.proofs.Cases.{below-or, true-or, both-right, both-true, not-both}
 use Rattle.sectors.specs.Sectors.{perSector}
 use Rattle.fat.specs.Lists.{ceil, fatCount, difatCount}
 use Rattle.fat.proofs.Listing.{ceil-enough, ceil-few}
-use Rattle.moves.specs.Disk.{needsDifat, afterFat, oneMore, countAfter}
+use Rattle.moves.specs.Disk.{needsDifat, afterFat, oneMore}
 
 -- of two quotients, one too small to be past the other
 above : (b x y a : ℕ) → x * b < a + b → a ≤ y * b → x ≤ y
@@ -81,14 +81,6 @@ pub fat-has : (S n i : ℕ) → 1 ≤ perSector S → i < n → i / perSector S 
 unfolding fatCount
 fat-has S n i some l = div-lt-iff-lt-mul {k = perSector S} {x = i} {y = ceil n (perSector S)} some .1 (omega (arith, l, ceil-enough n (perSector S) some .0))
 
-pub fats-few : (S n : ℕ) → 1 ≤ perSector S → fatCount S n ≤ n
-unfolding fatCount
-fats-few S n some = ceil-few n (perSector S) some
-
-pub difats-few : (S k : ℕ) → 2 ≤ perSector S → difatCount S k ≤ k
-unfolding difatCount
-difats-few S k two = omega (arith, ceil-few (k - 109) (perSector S - 1) (omega (arith, two)))
-
 -- the DIFAT's sectors: none in use, and where a place needs one more or not
 pub difat-none : (S p : ℕ) → 2 ≤ perSector S → p ≤ 109 → difatCount S p ≡ 0
 unfolding difatCount
@@ -101,10 +93,6 @@ unfolding difatCount
 difat-suc S p two h =
     let e : suc p - 109 ≡ suc (p - 109) = omega arith in
     ap (λ (a : ℕ). ceil a (perSector S - 1)) e ∙ ceil-suc (perSector S - 1) (omega (arith, two)) (p - 109)
-
-pub needs-far : (S p : ℕ) → needsDifat S p ≡ true → 109 ≤ p
-unfolding needsDifat
-needs-far S p t = leb-true 109 p (both-left _ _ t)
 
 pub needs-full : (S p : ℕ) → 2 ≤ perSector S → needsDifat S p ≡ true → difatCount S p ≡ (p - 109) / (perSector S - 1)
 unfolding needsDifat difatCount

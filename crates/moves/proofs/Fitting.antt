@@ -2,35 +2,26 @@
 use Prim.Native.Nat.{ℕ, zero, suc, _+_, _-_, _*_, _/_, _%_, _≤_, _<_}
 use mathlib.Core.Path.{_≡_, refl, sym, _∙_, ap, subst}
 use mathlib.Core.Bool.{true, false}
-use mathlib.Core.List.{List}
-use mathlib.Core.Logic.{_⊎_, inl, inr, ⊎-elim, _≢_}
+use mathlib.Core.Logic.{_⊎_, ⊎-elim, _≢_}
 use native.Mathlib.Omega.{arith}
 use native.Mathlib.Nat.{mod-lt, div-le-self}
 use native.Mathlib.Numerals.{add-one}
 use borrow.Author.Tests.{lt-ltb, le-ltb, eq-eqb, ne-eqb}
-use lib.Dec.{eqb, ltb}
-use lib.ListN.{length, getD, set, length-set}
-use lib.Seq.{getD-set-same, getD-set-other}
-use Rattle.lists.specs.Lists.{choose, splice}
+use lib.ListN.{length, getD, set}
+use Rattle.lists.specs.Lists.{choose}
 use Rattle.lists.proofs.Cases.{below-or, same-or, true-or}
-use Rattle.lists.proofs.Splice.{length-splice}
 use Rattle.words.specs.Words.{digits}
-use Rattle.words.proofs.Laws.{length-digits}
 use Rattle.consts.specs.Consts.{difatSector, fatSector, endOfChain}
-use Rattle.header.specs.Fields.{fatsAt, difatAt, difatsAt, entriesAt, offsetOf}
-use Rattle.sectors.specs.Sectors.{startOf, perSector, Holds}
+use Rattle.header.specs.Fields.{fatsAt, difatsAt, entriesAt, offsetOf}
+use Rattle.sectors.specs.Sectors.{startOf, perSector}
 use Rattle.sectors.specs.Init.{initBytes}
-use Rattle.sectors.specs.declared.init.SectorInit.{SectorInit}
 use Rattle.sectors.specs.declared.init.SectorInit.the-variants.{Zero, Fat, Difat}
-use Rattle.sectors.proofs.Laws.{sector-within}
-use Rattle.sectors.proofs.New.{length-init}
-use Rattle.fat.specs.Lists.{most, fatCount, difatCount, roomOf}
-use Rattle.moves.specs.Disk.{Disk, store, entryPlace, setFat, pushFat, listFat, listDifat, linkPlace, appendDifat, needsDifat, storePlace, holdPlace, listPlace, appendFat, afterFat, oneMore, countAfter, ready, newSector}
+use Rattle.fat.specs.Lists.{fatCount, difatCount}
+use Rattle.moves.specs.Disk.{Disk, store, setFat, pushFat, listFat, listDifat, linkPlace, appendDifat, needsDifat, storePlace, holdPlace, listPlace, appendFat, afterFat, oneMore, countAfter, ready, newSector}
 use Rattle.moves.specs.Hand.{reused}
 use Rattle.moves.specs.Fits.{Fits, FitsWhole, FitsFat, FitsNew}
-use Rattle.moves.proofs.Counting.{fat-suc, fat-full, fat-part, fat-has, fats-few, difats-few, difat-none, difat-suc, needs-far, needs-full, needs-not, needs-near, div-near, after-needs, after-not, after-few, one-full, one-part}
-
-use Rattle.moves.proofs.Keeping.{SameLong, Kept, kept-then, kept-none, each-many, sectors-inside, header-inside, sectors-of-fat, difats-inside, link-inside, number-kept, init-kept, set-kept, push-kept, grow-kept, list-kept}
+use Rattle.moves.proofs.Counting.{fat-suc, fat-full, fat-part, fat-has, difat-none, difat-suc, needs-full, needs-not, needs-near, div-near, after-needs, after-not, after-few, one-full, one-part}
+use Rattle.moves.proofs.Keeping.{SameLong, Kept, kept-then, kept-none, each-many, header-inside, sectors-of-fat, difats-inside, link-inside, number-kept, init-kept, set-kept, push-kept, grow-kept, list-kept}
 
 -- the next sector as a DIFAT sector, step by step: new, marked, linked, listed
 abbrev difatNew : ℕ → Disk → Disk

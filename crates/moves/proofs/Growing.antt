@@ -1,6 +1,6 @@
 -- What the code that grows the FAT is asked at each call, and what its changes come to, over plain variables. Assumes nothing.
 use Prim.Native.Nat.{ℕ, suc, _+_, _-_, _*_, _/_, _%_, _≤_, _<_}
-use mathlib.Core.Path.{_≡_, refl, sym, _∙_, ap, subst}
+use mathlib.Core.Path.{_≡_, sym, _∙_, ap, subst}
 use mathlib.Core.Bool.{Bool, true, false}
 use mathlib.Core.List.{List}
 use mathlib.Core.Logic.{_≢_}
@@ -42,15 +42,17 @@ module _ (S R j : ℕ) (d : Disk) (f : FitsOne S R j d) where
   one-new = (sectors-inside S R _ j d (f .fits) (d .sectors) (f .room), (f .fits .holds .entries, omega (arith, each-many S R _ j d (f .fits))))
 
   pub one-entry : (len : ℕ) → len ≡ length (d .image) → Entry S (d .sectors) (d .fat) (d .fats) len
-  one-entry len e =
-      ((f .fits .holds .entries, omega (arith, each-many S R _ j d (f .fits))),
-      ((omega (arith, f .room, f .fits .fat-long), omega (arith, f .fits .fats-many, f .fits .fats-long)), rw e (sectors-of-fat S R _ j d (f .fits) (d .sectors / perSector S) (omega arith))))
+  one-entry len e = (
+    (f .fits .holds .entries, omega (arith, each-many S R _ j d (f .fits))),
+    ((omega (arith, f .room, f .fits .fat-long), omega (arith, f .fits .fats-many, f .fits .fats-long)), rw e (sectors-of-fat S R _ j d (f .fits) (d .sectors / perSector S) (omega arith))),
+  )
 
   pub one-link : (len : ℕ) → len ≡ length (d .image)
       → ((512 ≤ S) × (S ≡ 4 * perSector S) × (S ≤ len)) × ((j ≤ length (d .difats)) × (0 < j → startOf S (getD (d .difats) (j - 1) 0) + S ≤ len))
-  one-link len e =
-      ((f .fits .header, f .fits .holds .entries, rw e (header-inside S R _ j d (f .fits))),
-      (omega (arith, f .fits .difats-many, f .fits .difats-long), λ l. rw e (difats-inside S R _ j d (f .fits) (j - 1) (omega (arith, l)))))
+  one-link len e = (
+    (f .fits .header, f .fits .holds .entries, rw e (header-inside S R _ j d (f .fits))),
+    (omega (arith, f .fits .difats-many, f .fits .difats-long), λ l. rw e (difats-inside S R _ j d (f .fits) (j - 1) (omega (arith, l)))),
+  )
 
 pub difat-appended : (S j n : ℕ) (image fat fats difats img1 img2 img3 img4 fat2 : List ℕ) → img1 ≡ splice image (startOf S n) (initBytes S Difat)
     → img2 ≡ splice img1 (entryPlace S fats n) (digits 4 difatSector) → fat2 ≡ set fat n difatSector → img3 ≡ splice img2 (linkPlace S difats j) (digits 4 n)
@@ -66,9 +68,10 @@ hold-not S p d r e t = let f : needsDifat S p ≡ false = sym e ∙ t in rw f
 pub hold-one : (S R p : ℕ) (d : Disk) (r : Bool) → 109 ≤ p → FitsPlace S R p d → r ≡ needsDifat S p → r ≡ true
     → FitsOne S R ((p - 109) / (perSector S - 1)) d × ((p - 109) / (perSector S - 1) < length (d .difats))
 hold-one S R p d r far f e t =
-    let two : 2 ≤ perSector S = omega (arith, each-many S R _ _ d (f .fits)) in
-    (record { fits = rw (needs-full S p two (sym e ∙ t)) at (f .fits); room = f .room (sym e ∙ t) },
-    omega (arith, div-le-self (p - 109) (perSector S - 1), f .place, f .fits .difats-long))
+    let two : 2 ≤ perSector S = omega (arith, each-many S R _ _ d (f .fits)) in (
+      record { fits = rw (needs-full S p two (sym e ∙ t)) at (f .fits); room = f .room (sym e ∙ t) },
+      omega (arith, div-le-self (p - 109) (perSector S - 1), f .place, f .fits .difats-long),
+    )
 
 pub hold-done : (S p n : ℕ) (image fat fats difats image' fat' fats' difats' : List ℕ) (r : Bool) → r ≡ needsDifat S p → r ≡ true
     → disk image' fat' fats' difats' (suc n) ≡ appendDifat S (disk image fat fats difats n) ((p - 109) / (perSector S - 1))
@@ -109,10 +112,13 @@ module _ (S R : ℕ) (d : Disk) (f : FitsFat S R d) where
   full-listed = (omega (arith, full-place S R d f, f .fits .fats-long), omega (arith, full-place S R d f, f .fits .few))
 
   pub full-entry : (len : ℕ) → len ≡ length (d .image) → Entry S (d .sectors) (d .fat) (set (d .fats) (d .sectors / perSector S) (d .sectors)) len
-  full-entry len e =
-      ((f .fits .holds .entries, omega (arith, full-many S R d f)),
-      ((omega (arith, full-room S R d f, f .fits .fat-long), rw length-set (full-listed .0)),
-      rw (getD-set-same (d .fats) (d .sectors / perSector S) (d .sectors) 0 (full-listed .0), e) (sectors-inside S R _ _ d (f .fits) (d .sectors) (full-room S R d f))))
+  full-entry len e = (
+    (f .fits .holds .entries, omega (arith, full-many S R d f)),
+    (
+      (omega (arith, full-room S R d f, f .fits .fat-long), rw length-set (full-listed .0)),
+      rw (getD-set-same (d .fats) (d .sectors / perSector S) (d .sectors) 0 (full-listed .0), e) (sectors-inside S R _ _ d (f .fits) (d .sectors) (full-room S R d f)),
+    ),
+  )
 
   marked-fits : FitsPlace S R (d .sectors / perSector S) (fatMarked S d)
   unfolding store pushFat listFat
@@ -154,10 +160,13 @@ module _ (S R : ℕ) (d e : Disk) (f : FitsNew S R d) (h : e ≡ ready S d) wher
   pub new-entry : Entry S (e .sectors) (e .fat) (e .fats) (length (e .image))
   new-entry =
       subst (λ (x : Disk). Entry S (x .sectors) (x .fat) (x .fats) (length (x .image))) (sym h)
-      (let g = ready-kept S R d f .fits in
-      ((g .holds .entries, omega (arith, new-many S R d f)),
-      ((omega (arith, ready-room S R d f, g .fat-long), omega (arith, ready-has S R d f, g .fats-many, g .fats-long)),
-      sectors-of-fat S R _ _ (ready S d) g (ready S d .sectors / perSector S) (ready-has S R d f))))
+      (let g = ready-kept S R d f .fits in (
+        (g .holds .entries, omega (arith, new-many S R d f)),
+        (
+          (omega (arith, ready-room S R d f, g .fat-long), omega (arith, ready-has S R d f, g .fats-many, g .fats-long)),
+          sectors-of-fat S R _ _ (ready S d) g (ready S d .sectors / perSector S) (ready-has S R d f),
+        ),
+      ))
 
   pub new-bytes : (len : ℕ) → len ≡ length (e .image) → New S (e .sectors) len
   new-bytes len same =
@@ -170,6 +179,7 @@ pub new-made : (S r : ℕ) (d : Disk) (image fat fats difats img1 img2 fat2 : Li
     → img1 ≡ splice image (entryPlace S fats r) (digits 4 endOfChain) → fat2 ≡ set fat r endOfChain → img2 ≡ splice img1 (startOf S r) (initBytes S Zero)
     → (r ≡ ready S d .sectors) × (disk img2 fat2 fats difats (suc r) ≡ newSector S d)
 unfolding newSector store pushFat
-new-made S r d image fat fats difats img1 img2 fat2 h entry told zeros =
-    (ap (λ (x : Disk). x .sectors) h,
-    rw (zeros, entry, told) (ap (λ (x : Disk). store (pushFat S x endOfChain) (startOf S (x .sectors)) (initBytes S Zero)) h))
+new-made S r d image fat fats difats img1 img2 fat2 h entry told zeros = (
+  ap (λ (x : Disk). x .sectors) h,
+  rw (zeros, entry, told) (ap (λ (x : Disk). store (pushFat S x endOfChain) (startOf S (x .sectors)) (initBytes S Zero)) h),
+)

@@ -1,33 +1,24 @@
 -- What the moves of a disk keep: the lengths of what is lent, and that every number lies within it. Assumes nothing.
-use Prim.Native.Nat.{ℕ, suc, _+_, _-_, _*_, _/_, _%_, _≤_, _<_}
-use mathlib.Core.Path.{_≡_, refl, sym, _∙_, ap}
-use mathlib.Core.Bool.{true, false}
+use Prim.Native.Nat.{ℕ, suc, _+_, _-_, _*_, _/_, _≤_, _<_}
+use mathlib.Core.Path.{_≡_, refl, _∙_}
 use mathlib.Core.List.{List}
-use mathlib.Core.Logic.{_⊎_, inl, inr, ⊎-elim, _≢_}
+use mathlib.Core.Logic.{_⊎_, ⊎-elim, _≢_}
 use native.Mathlib.Omega.{arith}
-use native.Mathlib.Nat.{mod-lt, div-le-self}
-use borrow.Author.Tests.{lt-ltb, le-ltb, eq-eqb, ne-eqb}
-use lib.Dec.{eqb, ltb}
+use native.Mathlib.Nat.{mod-lt, div-le-self, add-mul, one-mul}
+use borrow.Author.Tests.{eq-eqb, ne-eqb}
 use lib.ListN.{length, getD, set, length-set}
 use lib.Seq.{getD-set-same, getD-set-other}
-use Rattle.lists.specs.Lists.{choose, splice}
-use Rattle.lists.proofs.Cases.{below-or, same-or, true-or}
+use Rattle.lists.proofs.Cases.{same-or}
 use Rattle.lists.proofs.Splice.{length-splice}
 use Rattle.words.specs.Words.{digits}
 use Rattle.words.proofs.Laws.{length-digits}
-use Rattle.consts.specs.Consts.{difatSector, fatSector, endOfChain}
-use Rattle.header.specs.Fields.{fatsAt, difatAt, difatsAt, entriesAt, offsetOf}
-use Rattle.sectors.specs.Sectors.{startOf, perSector, Holds}
+use Rattle.sectors.specs.Sectors.{startOf, perSector}
 use Rattle.sectors.specs.Init.{initBytes}
 use Rattle.sectors.specs.declared.init.SectorInit.{SectorInit}
-use Rattle.sectors.specs.declared.init.SectorInit.the-variants.{Zero, Fat, Difat}
 use Rattle.sectors.proofs.Laws.{sector-within}
 use Rattle.sectors.proofs.New.{length-init}
-use Rattle.fat.specs.Lists.{most, fatCount, difatCount, roomOf}
-use Rattle.moves.specs.Disk.{Disk, store, entryPlace, setFat, pushFat, listFat, listDifat, linkPlace, appendDifat, needsDifat, storePlace, holdPlace, listPlace, appendFat, afterFat, oneMore, ready, newSector}
-use Rattle.moves.specs.Hand.{reused}
-use Rattle.moves.specs.Fits.{Fits, FitsWhole, FitsFat, FitsNew}
-use Rattle.moves.proofs.Counting.{fat-suc, fat-full, fat-part, fat-has, fats-few, difats-few, difat-none, difat-suc, needs-far, needs-full, needs-not, needs-near, div-near, after-needs, after-not, after-few, one-full, one-part}
+use Rattle.moves.specs.Disk.{Disk, store, entryPlace, setFat, pushFat, listFat, listDifat, linkPlace}
+use Rattle.moves.specs.Fits.{Fits}
 
 -- the lent image and the lent tables are as long as they were
 pub record SameLong (d e : Disk) : Type 0 where
@@ -103,7 +94,7 @@ module _ (S R k j : ℕ) (d : Disk) (f : Fits S R k j d) where
   sectors-inside i l = sector-within S R (length (d .image)) i (f .holds) l
 
   pub header-inside : S ≤ length (d .image)
-  header-inside = omega (arith, f .holds .fits, native.Mathlib.Nat.add-mul R 1 S, native.Mathlib.Nat.one-mul S)
+  header-inside = omega (arith, f .holds .fits, add-mul R 1 S, one-mul S)
 
   pub sectors-of-fat : (p : ℕ) → p < k → startOf S (getD (d .fats) p 0) + S ≤ length (d .image)
   sectors-of-fat p l = sectors-inside (getD (d .fats) p 0) (omega (arith, f .fats-below p l, f .inside))

@@ -55,7 +55,8 @@ same-length-3 : tie.Need-same-length-3
 same-length-3 c = search needs
 
 returns : tie.Need-returns
-returns c = let l = linked c in
+returns c =
+    let l = linked c in
     let t = marked l in
     difat-appended _ _ _ _ _ _ _ _ _ _ _ _ (made t .init-at .ensures) (t .set-fat .ensures .0) (t .set-fat .ensures .1) (l .link-difat .ensures) (c .before .before .put-number .ensures)
 

@@ -1,5 +1,4 @@
 -- The sector's own entry stands in it; once it is marked there is room for its place, and the stores are the definition's.
-use mathlib.Core.Path.{_∙_}
 use native.Mathlib.Omega.{arith}
 use Rattle.moves.proofs.Growing.{full-new, full-listed, full-entry, fat-marked, fat-place, fat-appended}
 use borrow.Author.Needs.{needs}
@@ -26,10 +25,10 @@ init-at-requires : tie.Need-init-at-requires
 init-at-requires c κs = full-new _ _ _ (c .before .before .before .before .before .pre)
 
 mul-fats : tie.Need-mul-fats
-mul-fats c = omega (arith, full-listed _ _ _ (c .before .before .before .before .before .before .before .before .pre) .1)
+mul-fats c = omega (arith, full-listed _ _ _ (entry (c .before .before) .pre) .1)
 
 slice-write-fats : tie.Need-slice-write-fats
-slice-write-fats c = full-listed _ _ _ (c .before .before .before .before .before .before .before .before .pre) .0
+slice-write-fats c = full-listed _ _ _ (entry (c .before .before) .pre) .0
 
 set-fat-requires : tie.Need-set-fat-requires
 set-fat-requires c κs = let m = c .before .before .before .before .before in full-entry _ _ _ (entry m .pre) _ (m .init-at .kept .0)
@@ -38,7 +37,9 @@ add-list-place : tie.Need-add-list-place
 add-list-place c = search needs
 
 list-place-requires : tie.Need-list-place-requires
-list-place-requires c κs = let t = c .before .before .before .before .before .before .before .before in fat-place _ _ _ (entry (made t) .pre) (fat-marked _ _ _ _ _ _ _ _ _ (made t .init-at .ensures) (t .set-fat .ensures .0) (t .set-fat .ensures .1))
+list-place-requires c κs =
+    let t = c .before .before .before .before .before .before .before .before in
+    fat-place _ _ _ (entry (made t) .pre) (fat-marked _ _ _ _ _ _ _ _ _ (made t .init-at .ensures) (t .set-fat .ensures .0) (t .set-fat .ensures .1))
 
 add-put-number : tie.Need-add-put-number
 add-put-number c = omega (arith, full-listed _ _ _ (entry (made (marked (c .before .before .before .before .before .before .before))) .pre) .1)
@@ -62,7 +63,8 @@ same-length-4 : tie.Need-same-length-4
 same-length-4 c = search needs
 
 returns : tie.Need-returns
-returns c = let l = c .before .before .before .before .before .before .before .before .before .before in
+returns c =
+    let l = c .before .before .before .before .before .before .before .before .before .before in
     let t = marked l in
     fat-appended _ _ _ _ _ _ _ _ _ (fat-marked _ _ _ _ _ _ _ _ _ (made t .init-at .ensures) (t .set-fat .ensures .0) (t .set-fat .ensures .1)) (l .list-place .ensures) (c .before .before .put-number .ensures)
 

@@ -5,57 +5,35 @@ use borrow.Author.Tests.{not-true, not-false}
 use Rattle.moves.proofs.disk.hold_place.Statement.{statement}
 use Rattle.moves.proofs.disk.hold_place.Tie as tie
 
--- src/disk.rt:95:9
-
 needs-difat-requires : tie.Need-needs-difat-requires
 needs-difat-requires c κs = search needs
-
--- src/disk.rt:96:9
 
 returns : tie.Need-returns
 returns c = hold-not _ _ _ _ (c .before .needs-difat .ensures) (not-true _ (c .if1 .taken))
 
--- src/disk.rt:98:58
-
 sub-append-difat-sector : tie.Need-sub-append-difat-sector
 sub-append-difat-sector c = search needs
-
--- src/disk.rt:98:70
 
 sub-append-difat-sector-2 : tie.Need-sub-append-difat-sector-2
 sub-append-difat-sector-2 c = search needs
 
--- src/disk.rt:98:57
-
 div-append-difat-sector : tie.Need-div-append-difat-sector
 div-append-difat-sector c = search needs
-
--- src/disk.rt:98:5
 
 append-difat-sector-requires : tie.Need-append-difat-sector-requires
 append-difat-sector-requires c κs = let g = c .before .before .before .before .before .before .before .before .before in hold-one _ _ _ _ _ (g .pre .0) (g .pre .1) (c .before .before .before .before .needs-difat .ensures) (not-false _ (c .before .before .before .if1 .left))
 
--- src/disk.rt:99:5
-
 add-result : tie.Need-add-result
 add-result c = search needs
-
--- src/disk.rt:83:1
 
 same-length : tie.Need-same-length
 same-length c = search needs
 
--- src/disk.rt:83:1
-
 same-length-2 : tie.Need-same-length-2
 same-length-2 c = search needs
 
--- src/disk.rt:83:1
-
 same-length-3 : tie.Need-same-length-3
 same-length-3 c = search needs
-
--- src/disk.rt:83:1
 
 returns-2 : tie.Need-returns-2
 returns-2 c = let t = c .before .before .before .before .before .before .before .before .before .before in hold-done _ _ _ _ _ _ _ _ _ _ _ _ (t .before .needs-difat .ensures) (not-false _ (t .if1 .left)) (c .before .before .before .before .before .before .append-difat-sector .ensures)

@@ -7,8 +7,6 @@ use borrow.Author.Needs.{needs}
 use Rattle.moves.proofs.disk.list_place.Statement.{statement}
 use Rattle.moves.proofs.disk.list_place.Tie as tie
 
--- src/disk.rt:117:9
-
 -- the function's entry, from where the place was held
 abbrev entry : tie.After-hold-place → tie.Start
 entry c = c .before .before .before .before .before .before .before .before .before
@@ -16,75 +14,55 @@ entry c = c .before .before .before .before .before .before .before .before .bef
 put-place-requires : tie.Need-put-place-requires
 put-place-requires c κs = search needs
 
--- src/disk.rt:118:9
-
 same-length : tie.Need-same-length
 same-length c = search needs
-
--- src/disk.rt:118:9
 
 returns : tie.Need-returns
 returns c = place-near _ _ _ _ _ _ _ _ _ (c .before .before .before .before .if1 .taken) (c .before .before .put-place .ensures)
 
--- src/disk.rt:120:9
-
 hold-place-requires : tie.Need-hold-place-requires
 hold-place-requires c κs = search needs
-
--- src/disk.rt:121:16
 
 sub-each : tie.Need-sub-each
 sub-each c = search needs
 
--- src/disk.rt:122:25
-
 div-sector : tie.Need-div-sector
 div-sector c = search needs
 
--- src/disk.rt:122:18
-
 mul-sector : tie.Need-mul-sector
-mul-sector c = omega (arith, place-listed _ _ _ _ (c .before .before .before .before .before .before .before .before .before .before .before .before .before .before .before .pre) .1)
-
--- src/disk.rt:122:18
+mul-sector c = omega (arith, place-listed _ _ _ _ (entry (c .before .before .before .before .before .before) .pre) .1)
 
 slice-read-sector : tie.Need-slice-read-sector
-slice-read-sector c = omega (arith, place-listed _ _ _ _ (c .before .before .before .before .before .before .before .before .before .before .before .before .before .before .before .before .pre) .0, c .before .before .before .before .before .before .before .hold-place .kept .1 .1 .1 .1 .1 .0)
-
--- src/disk.rt:122:18
+slice-read-sector c = let h = c .before .before .before .before .before .before .before in omega (arith, place-listed _ _ _ _ (entry h .pre) .0, h .hold-place .kept .1 .1 .1 .1 .1 .0)
 
 cast-sector : tie.Need-cast-sector
-cast-sector c = let h = c .before .before .before .before .before .before .before in let g = entry h in omega (arith, sector-small _ _ _ (omega (arith, g .pre .fits .header)) (place-held _ _ _ _ _ (h .before .before .before .before .if1 .left) (g .pre) (h .hold-place .ensures)))
-
--- src/disk.rt:123:30
+cast-sector c =
+    let h = c .before .before .before .before .before .before .before in
+    let g = entry h in
+    omega (arith, sector-small _ _ _ (omega (arith, g .pre .fits .header)) (place-held _ _ _ _ _ (h .before .before .before .before .if1 .left) (g .pre) (h .hold-place .ensures)))
 
 rem-put-at : tie.Need-rem-put-at
 rem-put-at c = search needs
 
--- src/disk.rt:123:5
-
 put-at-requires : tie.Need-put-at-requires
-put-at-requires c κs = let h = c .before .before .before .before .before .before .before .before in let g = entry h in (place-held _ _ _ _ _ (h .before .before .before .before .if1 .left) (g .pre) (h .hold-place .ensures), place-in-sector _ _ (g .pre .fits .holds .entries) (g .pre .fits .holds .two))
-
--- src/disk.rt:103:1
+put-at-requires c κs =
+    let h = c .before .before .before .before .before .before .before .before in
+    let g = entry h in
+    (place-held _ _ _ _ _ (h .before .before .before .before .if1 .left) (g .pre) (h .hold-place .ensures), place-in-sector _ _ (g .pre .fits .holds .entries) (g .pre .fits .holds .two))
 
 same-length-2 : tie.Need-same-length-2
 same-length-2 c = search needs
 
--- src/disk.rt:103:1
-
 same-length-3 : tie.Need-same-length-3
 same-length-3 c = search needs
-
--- src/disk.rt:103:1
 
 same-length-4 : tie.Need-same-length-4
 same-length-4 c = search needs
 
--- src/disk.rt:103:1
-
 returns-2 : tie.Need-returns-2
-returns-2 c = let h = c .before .before .before .before .before .before .before .before .before .before .before in place-far _ _ _ _ _ _ _ _ _ _ (h .before .before .before .before .if1 .left) (h .hold-place .ensures) (c .before .before .put-at .ensures)
+returns-2 c =
+    let h = c .before .before .before .before .before .before .before .before .before .before .before in
+    place-far _ _ _ _ _ _ _ _ _ _ (h .before .before .before .before .if1 .left) (h .hold-place .ensures) (c .before .before .put-at .ensures)
 
 pub list-place-spec : {M : Type 1} → statement M
 list-place-spec =

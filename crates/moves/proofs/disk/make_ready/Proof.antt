@@ -5,42 +5,26 @@ use borrow.Author.Needs.{needs}
 use Rattle.moves.proofs.disk.make_ready.Statement.{statement}
 use Rattle.moves.proofs.disk.make_ready.Tie as tie
 
--- src/disk.rt:161:8
-
 rem-if1 : tie.Need-rem-if1
 rem-if1 c = search needs
-
--- src/disk.rt:162:9
 
 returns : tie.Need-returns
 returns c = ready-there _ _ (c .if1 .taken)
 
--- src/disk.rt:164:5
-
 append-fat-sector-requires : tie.Need-append-fat-sector-requires
 append-fat-sector-requires c κs = new-full _ _ _ (c .before .before .before .before .before .before .before .before .before .pre) (c .before .before .before .before .if1 .left)
-
--- src/disk.rt:150:1
 
 same-length : tie.Need-same-length
 same-length c = search needs
 
--- src/disk.rt:150:1
-
 same-length-2 : tie.Need-same-length-2
 same-length-2 c = search needs
-
--- src/disk.rt:150:1
 
 same-length-3 : tie.Need-same-length-3
 same-length-3 c = search needs
 
--- src/disk.rt:150:1
-
 same-length-4 : tie.Need-same-length-4
 same-length-4 c = search needs
-
--- src/disk.rt:150:1
 
 returns-2 : tie.Need-returns-2
 returns-2 c = ready-made _ _ _ (c .before .before .before .before .before .before .before .before .before .before .before .before .before .if1 .left) (c .before .before .before .before .before .before .before .before .append-fat-sector .ensures)

@@ -4,8 +4,6 @@ use borrow.Author.Needs.{needs}
 use Rattle.moves.proofs.disk.new_sector.Statement.{statement}
 use Rattle.moves.proofs.disk.new_sector.Tie as tie
 
--- src/disk.rt:179:9
-
 -- where the next sector was made ready, and the function's entry
 abbrev made : tie.After-set-fat → tie.After-make-ready
 made c = c .before .before .before .before .before .before .before .before .before .before .before .before
@@ -16,37 +14,23 @@ entry c = c .before .before .before .before .before .before .before .before .bef
 make-ready-requires : tie.Need-make-ready-requires
 make-ready-requires c κs = search needs
 
--- src/disk.rt:180:5
-
 set-fat-requires : tie.Need-set-fat-requires
 set-fat-requires c κs = let m = c .before .before .before .before .before .before .before .before .before .before .before in new-entry _ _ _ _ (entry m .pre) (m .make-ready .ensures)
-
--- src/disk.rt:181:5
 
 init-at-requires : tie.Need-init-at-requires
 init-at-requires c κs = let t = c .before .before .before .before .before in let m = made t in new-bytes _ _ _ _ (entry m .pre) (m .make-ready .ensures) _ (t .set-fat .kept .0)
 
--- src/disk.rt:168:1
-
 same-length : tie.Need-same-length
 same-length c = search needs
-
--- src/disk.rt:168:1
 
 same-length-2 : tie.Need-same-length-2
 same-length-2 c = search needs
 
--- src/disk.rt:168:1
-
 same-length-3 : tie.Need-same-length-3
 same-length-3 c = search needs
 
--- src/disk.rt:168:1
-
 same-length-4 : tie.Need-same-length-4
 same-length-4 c = search needs
-
--- src/disk.rt:168:1
 
 returns : tie.Need-returns
 returns c = let t = c .before .before .before .before .before .before .before .before in new-made _ _ _ _ _ _ _ _ _ _ (made t .make-ready .ensures) (t .set-fat .ensures .0) (t .set-fat .ensures .1) (c .before .before .init-at .ensures)

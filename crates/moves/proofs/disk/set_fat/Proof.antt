@@ -1,7 +1,6 @@
 -- The entry stands in the FAT sector that the table names, which lies within the image.
 use mathlib.Core.Path.{refl}
 use native.Mathlib.Omega.{arith}
-use Prim.Native.Nat.{_/_}
 use Rattle.moves.proofs.Storing.{sector-small, entry-within, entry-stored}
 use borrow.Author.Needs.{needs}
 use Rattle.moves.proofs.disk.set_fat.Statement.{statement}
