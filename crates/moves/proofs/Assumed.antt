@@ -41,3 +41,15 @@ count-grows S n c = ?h9
 
 pub count-more : (S n c : ℕ) → countAfter S n (suc c) ≡ countAfter S (oneMore S n) c
 count-more S n c = ?h10
+
+-- the image and the tables stay as long
+pub set-long : (S R k j : ℕ) (d : Disk) (i v : ℕ) → i / perSector S < k → Fits S R k j d → length (setFat S d i v .image) ≡ length (d .image)
+set-long S R k j d i v h f = ?h11
+
+pub reused-long : (S R : ℕ) (d : Disk) (id : ℕ) → id < d .sectors → FitsWhole S R d → length (reused S d id .image) ≡ length (d .image)
+reused-long S R d id h f = ?h12
+
+pub new-long : (S R : ℕ) (d : Disk) → FitsNew S R d
+    → (length (newSector S d .image) ≡ length (d .image)) × (length (newSector S d .fat) ≡ length (d .fat)) × (length (newSector S d .fats) ≡ length (d .fats))
+    × (length (newSector S d .difats) ≡ length (d .difats))
+new-long S R d f = ?h13
