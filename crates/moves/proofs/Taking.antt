@@ -110,6 +110,14 @@ reused-tables : (S : ℕ) (d : Disk) (id : ℕ)
 unfolding reused setFat store
 reused-tables S d id = (length-set (d .fat) id endOfChain, refl, refl)
 
+-- how many are FREE then
+pub take-free : (S : ℕ) (h : Hand) → takeSector S h .free ≡ h .free - 1
+take-free S h =
+    ⊎-elim
+    (λ (e : h .free ≡ 0). rw (take-none S h e) (omega (arith, e)))
+    (λ (e : h .free ≢ 0). rw (take-one S h e))
+    (same-or (h .free) 0)
+
 -- a sector can be taken from a hand that has room
 module _ (S R : ℕ) (h : Hand) (f : FitsHand S R h) (room : h .free ≡ 0 → oneMore S (h .disk .sectors) ≤ R) where
   pub stock-of : FitsStock S R (h .disk) (h .frees) (h .free)
@@ -122,7 +130,7 @@ module _ (S R : ℕ) (h : Hand) (f : FitsHand S R h) (room : h .free ≡ 0 → o
   last-of : h .free ≢ 0 → getD (h .frees) (h .free - 1) 0 < h .disk .sectors
   last-of e = f .frees-below (h .free - 1) (omega (arith, e))
 
-  -- how many sectors there are then, and how many of them are FREE
+  -- how many sectors there are then
   pub take-sectors-new : h .free ≡ 0 → takeSector S h .disk .sectors ≡ oneMore S (h .disk .sectors)
   take-sectors-new e = rw (take-none S h e) (new-sectors S R (h .disk) (new-of e))
 
@@ -134,13 +142,6 @@ module _ (S R : ℕ) (h : Hand) (f : FitsHand S R h) (room : h .free ≡ 0 → o
       ⊎-elim
       (λ (e : h .free ≡ 0). omega (arith, take-sectors-new e, one-more-grows S (h .disk .sectors)))
       (λ (e : h .free ≢ 0). omega (arith, take-sectors-same e))
-      (same-or (h .free) 0)
-
-  pub take-free : takeSector S h .free ≡ h .free - 1
-  take-free =
-      ⊎-elim
-      (λ (e : h .free ≡ 0). rw (take-none S h e) (omega (arith, e)))
-      (λ (e : h .free ≢ 0). rw (take-one S h e))
       (same-or (h .free) 0)
 
   -- the sector that is taken is one of them
