@@ -1,5 +1,5 @@
 -- The laws of the disk's changes that the moves go by. Assumes them: they are proved with the disk.
-use Prim.Native.Nat.{ℕ, suc, _+_, _-_, _*_, _/_, _≤_, _<_}
+use Prim.Native.Nat.{ℕ, suc, _+_, _-_, _/_, _≤_, _<_}
 use mathlib.Core.Path.{_≡_}
 use lib.ListN.{length, getD}
 use Rattle.sectors.specs.Sectors.{startOf, perSector}

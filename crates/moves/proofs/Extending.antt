@@ -6,10 +6,10 @@ use native.Mathlib.Omega.{arith}
 use lib.ListN.{length}
 use Rattle.fat.specs.Lists.{most, roomOf}
 use Rattle.moves.specs.Disk.{countAfter}
-use Rattle.moves.specs.Hand.{Hand, Chain, extendOne, extend}
+use Rattle.moves.specs.Hand.{Chain, extendOne, extend}
 use Rattle.moves.specs.Fits.{FitsChain, FitsMore}
-use Rattle.moves.proofs.Assumed.{count-grows}
-use Rattle.moves.proofs.Linking.{handOf, SameLong, long-same, long-on, count-none, one-count, one-free, one-fits, one-long, one-counted, more-small, more-one}
+use Rattle.moves.proofs.Pointing.{handOf}
+use Rattle.moves.proofs.Linking.{SameLong, long-same, long-on, count-none, one-count, one-free, one-fits, one-long, one-counted, more-small, more-one}
 
 -- no sector more, and one and the others
 pub extend-none : (S : ℕ) (c : Chain) → extend S c 0 ≡ c

@@ -1,8 +1,8 @@
 -- The laws of a sector linked behind a chain's last one, and of a chain with one sector more. Assumes nothing.
-use Prim.Native.Nat.{ℕ, zero, suc, _+_, _-_, _*_, _/_, _≤_, _<_}
+use Prim.Native.Nat.{ℕ, suc, _+_, _-_, _*_, _/_, _≤_, _<_}
 use mathlib.Core.Path.{_≡_, refl, _∙_, sym, ap}
 use mathlib.Core.List.{List}
-use mathlib.Core.Logic.{_⊎_, inl, inr, ⊎-elim, _≢_}
+use mathlib.Core.Logic.{⊎-elim, _≢_}
 use native.Mathlib.Omega.{arith}
 use borrow.Author.Tests.{eq-eqb, ne-eqb}
 use lib.ListN.{length, getD, set, length-set}
@@ -10,17 +10,12 @@ use lib.Seq.{getD-set-same, getD-set-other}
 use Rattle.lists.proofs.Cases.{same-or}
 use Rattle.sectors.specs.Sectors.{startOf, perSector}
 use Rattle.fat.specs.Lists.{most}
-use Rattle.moves.specs.Disk.{Disk, oneMore, countAfter}
+use Rattle.moves.specs.Disk.{oneMore, countAfter}
 use Rattle.moves.specs.Hand.{Hand, Chain, Points, point, takenId, takeSector, linked, extendOne}
-use Rattle.moves.specs.Fits.{FitsHand, FitsStock, FitsLast, FitsChain, FitsMore}
+use Rattle.moves.specs.Fits.{FitsHand, FitsStock, FitsLast, FitsMore}
 use Rattle.moves.proofs.Assumed.{one-more-grows, count-grows, count-more}
-use Rattle.moves.proofs.Pointing.{points-hand, point-fits, point-inside, point-image, point-tables, point-counts}
+use Rattle.moves.proofs.Pointing.{handOf, points-hand, point-fits, point-inside, point-image, point-tables, point-counts}
 use Rattle.moves.proofs.Taking.{stock-of, take-sectors-new, take-sectors-same, take-sectors-grow, take-free, taken-below, take-fits, take-image, take-fat, take-fats, take-difats, take-frees, take-marks}
-
--- what is in hand, by its parts
-abbrev pub handOf : ℕ → List ℕ → List ℕ → List ℕ → List ℕ → List ℕ → ℕ → List ℕ → Hand
-handOf n image fat fats difats frees free marks =
-    record { disk = record { image = image; fat = fat; fats = fats; difats = difats; sectors = n }; frees = frees; free = free; marks = marks }
 
 -- a chain of none, and one with a last sector
 pub linked-none : (S : ℕ) (h : Hand) (ids : List ℕ) (count id : ℕ) → count ≡ 0 → linked S h ids count id ≡ h
@@ -67,7 +62,7 @@ module _ (S : ℕ) (h : Hand) (ids : List ℕ) (count id : ℕ) where
   linked-fits R b f =
       ⊎-elim
       (λ (e : count ≡ 0). rw (linked-none S h ids count id e) f)
-      (λ (e : count ≢ 0). rw (linked-last S h ids count id e) (point-fits S R h (getD ids (count - 1) 0) id (b (omega (arith, e))) f))
+      (λ (e : count ≢ 0). rw (linked-last S h ids count id e) (point-fits S R h (getD ids (count - 1) 0) id f (b (omega (arith, e)))))
       (same-or count 0)
 
   pub linked-counts : (linked S h ids count id .disk .sectors ≡ h .disk .sectors) × (linked S h ids count id .free ≡ h .free)
@@ -82,7 +77,7 @@ module _ (S : ℕ) (h : Hand) (ids : List ℕ) (count id : ℕ) where
   linked-image R b f =
       ⊎-elim
       (λ (e : count ≡ 0). rw (linked-none S h ids count id e))
-      (λ (e : count ≢ 0). rw (linked-last S h ids count id e) (point-image S R h (getD ids (count - 1) 0) id (b (omega (arith, e))) f))
+      (λ (e : count ≢ 0). rw (linked-last S h ids count id e) (point-image S R h (getD ids (count - 1) 0) id f (b (omega (arith, e)))))
       (same-or count 0)
 
   pub linked-tables : (length (linked S h ids count id .disk .fat) ≡ length (h .disk .fat)) × (linked S h ids count id .disk .fats ≡ h .disk .fats)
@@ -158,13 +153,13 @@ module _ {S R m : ℕ} {c : Chain} (f : FitsMore S R (suc m) c) where
       record {
         fits = f .fits;
         room = ⊎-elim
-        (λ (e : c .hand .free ≡ 0).
-        let one : 1 - c .hand .free ≡ suc 0 = omega (arith, e) in
-        rw (one, count-more, count-none) (more-room e))
-        (λ (e : c .hand .free ≢ 0).
-        let none : 1 - c .hand .free ≡ 0 = omega (arith, e) in
-        rw (none, count-none) (f .fits .fits .disk .inside))
-        (same-or (c .hand .free) 0);
+            (λ (e : c .hand .free ≡ 0).
+            let one : 1 - c .hand .free ≡ suc 0 = omega (arith, e) in
+            rw (one, count-more, count-none) (more-room e))
+            (λ (e : c .hand .free ≢ 0).
+            let none : 1 - c .hand .free ≡ 0 = omega (arith, e) in
+            rw (none, count-none) (f .fits .fits .disk .inside))
+            (same-or (c .hand .free) 0);
       }
 
   pub more-stock : FitsStock S R (c .hand .disk) (c .hand .frees) (c .hand .free)

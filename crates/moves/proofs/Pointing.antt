@@ -1,6 +1,6 @@
 -- The laws of marks, and of an entry made to point at a sector. Assumes nothing.
 use Prim.Native.Nat.{ℕ, _+_, _*_, _/_, _≤_, _<_}
-use mathlib.Core.Path.{_≡_, refl, _∙_, sym, ap}
+use mathlib.Core.Path.{_≡_, refl, _∙_, ap}
 use mathlib.Core.Bool.{Bool, true, false}
 use mathlib.Core.List.{List}
 use native.Mathlib.Omega.{arith}
@@ -10,10 +10,10 @@ use lib.ListN.{length, getD, set, length-set}
 use Rattle.lists.specs.Lists.{choose, splice}
 use Rattle.words.specs.Words.{digits}
 use Rattle.sectors.specs.Sectors.{startOf, perSector}
-use Rattle.fat.specs.Lists.{fatCount, difatCount}
+use Rattle.fat.specs.Lists.{fatCount}
 use Rattle.moves.specs.Disk.{Disk, setFat, entryPlace}
 use Rattle.moves.specs.Hand.{Hand, marked, point, Points}
-use Rattle.moves.specs.Fits.{Fits, FitsWhole, FitsHand}
+use Rattle.moves.specs.Fits.{FitsWhole, FitsHand}
 use Rattle.moves.proofs.Assumed.{set-fits, set-long, entry-sector, fats-inside}
 
 -- a mark that is set, and one that is no sector's
@@ -40,10 +40,14 @@ pub points-of : (S n : ℕ) (image fat fats marks : List ℕ) (i v : ℕ) (image
 points-of S n image fat fats marks i v image' fat' lost marks' l m s e =
     record { stored = s; entry = e; moved = m ∙ ap (λ (x : List ℕ). marked n x v 1) l }
 
+-- what is in hand, by its parts
+abbrev pub handOf : ℕ → List ℕ → List ℕ → List ℕ → List ℕ → List ℕ → ℕ → List ℕ → Hand
+handOf n image fat fats difats frees free marks =
+    record { disk = record { image = image; fat = fat; fats = fats; difats = difats; sectors = n }; frees = frees; free = free; marks = marks }
+
 -- what is in hand, after the parts were touched
 pub points-hand : (S n : ℕ) (image fat fats difats frees marks : List ℕ) (free i v : ℕ) (image' fat' marks' : List ℕ) → Points S n image fat fats marks i v image' fat' marks'
-    → record { disk = record { image = image'; fat = fat'; fats = fats; difats = difats; sectors = n }; frees = frees; free = free; marks = marks' }
-    ≡ point S (record { disk = record { image = image; fat = fat; fats = fats; difats = difats; sectors = n }; frees = frees; free = free; marks = marks }) i v
+    → handOf n image' fat' fats difats frees free marks' ≡ point S (handOf n image fat fats difats frees free marks) i v
 unfolding point setFat
 points-hand S n image fat fats difats frees marks free i v image' fat' marks' p = rw (p .stored, p .entry, p .moved)
 
@@ -63,9 +67,9 @@ point-inside S R h i f b =
     ((f .disk .holds .entries, omega (arith, f .disk .holds .two), omega (arith, f .disk .inside, f .marks-long)), ((e .0, e .1), e .2))
 
 -- pointing leaves what the code asks for
-pub point-fits : (S R : ℕ) (h : Hand) (i v : ℕ) → i < h .disk .sectors → FitsHand S R h → FitsHand S R (point S h i v)
+pub point-fits : (S R : ℕ) (h : Hand) (i v : ℕ) → FitsHand S R h → i < h .disk .sectors → FitsHand S R (point S h i v)
 unfolding point setFat
-point-fits S R h i v b f =
+point-fits S R h i v f b =
     record {
       disk = set-fits S R _ _ (h .disk) i v (entry-sector S R (h .disk) i (f .disk) b) (f .disk);
       frees-long = f .frees-long;
@@ -75,17 +79,21 @@ point-fits S R h i v b f =
     }
 
 -- and everything that is lent stays as long
-pub point-image : (S R : ℕ) (h : Hand) (i v : ℕ) → i < h .disk .sectors → FitsHand S R h → length (point S h i v .disk .image) ≡ length (h .disk .image)
+pub point-image : (S R : ℕ) (h : Hand) (i v : ℕ) → FitsHand S R h → i < h .disk .sectors → length (point S h i v .disk .image) ≡ length (h .disk .image)
 unfolding point
-point-image S R h i v b f = set-long S R _ _ (h .disk) i v (entry-sector S R (h .disk) i (f .disk) b) (f .disk)
+point-image S R h i v f b = set-long S R _ _ (h .disk) i v (entry-sector S R (h .disk) i (f .disk) b) (f .disk)
 
 pub point-tables : (S : ℕ) (h : Hand) (i v : ℕ)
     → (length (point S h i v .disk .fat) ≡ length (h .disk .fat)) × (point S h i v .disk .fats ≡ h .disk .fats) × (point S h i v .disk .difats ≡ h .disk .difats)
     × (point S h i v .frees ≡ h .frees) × (length (point S h i v .marks) ≡ length (h .marks))
 unfolding point setFat
-point-tables S h i v =
-    (length-set (h .disk .fat) i v, refl, refl, refl,
-    length-marked (h .disk .sectors) (marked (h .disk .sectors) (h .marks) (getD (h .disk .fat) i 0) 0) v 1 ∙ length-marked (h .disk .sectors) (h .marks) (getD (h .disk .fat) i 0) 0)
+point-tables S h i v = (
+  length-set (h .disk .fat) i v,
+  refl,
+  refl,
+  refl,
+  length-marked (h .disk .sectors) (marked (h .disk .sectors) (h .marks) (getD (h .disk .fat) i 0) 0) v 1 ∙ length-marked (h .disk .sectors) (h .marks) (getD (h .disk .fat) i 0) 0,
+)
 
 pub point-counts : (S : ℕ) (h : Hand) (i v : ℕ) → (point S h i v .disk .sectors ≡ h .disk .sectors) × (point S h i v .free ≡ h .free)
 unfolding point setFat

@@ -1,26 +1,24 @@
 -- The laws of a sector taken. Assumes nothing.
 use Prim.Native.Nat.{ℕ, suc, _+_, _-_, _*_, _/_, _≤_, _<_}
-use mathlib.Core.Path.{_≡_, refl, _∙_, sym, ap}
-use mathlib.Core.Bool.{Bool, true, false}
+use mathlib.Core.Path.{_≡_, refl, ap}
 use mathlib.Core.List.{List}
-use mathlib.Core.Logic.{_⊎_, inl, inr, ⊎-elim, _≢_}
+use mathlib.Core.Logic.{⊎-elim, _≢_}
 use native.Mathlib.Omega.{arith}
 use borrow.Author.Tests.{eq-eqb, ne-eqb}
-use lib.Dec.{eqb}
 use lib.ListN.{length, getD, set, length-set}
 use lib.Seq.{getD-set-other}
-use Rattle.lists.specs.Lists.{choose, splice}
-use Rattle.lists.proofs.Cases.{same-or, below-or}
+use Rattle.lists.specs.Lists.{splice}
+use Rattle.lists.proofs.Cases.{same-or}
 use Rattle.words.specs.Words.{digits}
 use Rattle.consts.specs.Consts.{endOfChain}
 use Rattle.sectors.specs.Sectors.{startOf, perSector}
 use Rattle.sectors.specs.Init.{initBytes}
 use Rattle.sectors.specs.declared.init.SectorInit.the-variants.{Zero}
 use Rattle.sectors.proofs.Laws.{sector-within}
-use Rattle.fat.specs.Lists.{fatCount, difatCount, most}
+use Rattle.fat.specs.Lists.{most}
 use Rattle.moves.specs.Disk.{Disk, store, setFat, entryPlace, ready, newSector, oneMore}
 use Rattle.moves.specs.Hand.{Hand, reused, takenId, takeSector}
-use Rattle.moves.specs.Fits.{Fits, FitsWhole, FitsNew, FitsHand, FitsStock}
+use Rattle.moves.specs.Fits.{FitsWhole, FitsNew, FitsHand, FitsStock}
 use Rattle.moves.proofs.Assumed.{reused-fits, reused-long, new-fits, new-long, ready-sectors, new-sectors, one-more-grows}
 use Rattle.moves.proofs.Pointing.{entry-inside}
 
@@ -63,9 +61,10 @@ pub taken-new : (S n free : ℕ) (image fat fats difats frees : List ℕ) (id m 
     × (record { disk = record { image = image'; fat = fat'; fats = fats'; difats = difats'; sectors = m }; frees = frees; free = 0; marks = marks }
     ≡ takeSector S (record { disk = record { image = image; fat = fat; fats = fats; difats = difats; sectors = n }; frees = frees; free = free; marks = marks }))
 unfolding takenId takeSector
-taken-new S n free image fat fats difats frees id m image' fat' fats' difats' z p s marks =
-    (rw (eq-eqb free 0 z) (p .0),
-    rw (eq-eqb free 0 z, s, z) (ap (λ (d : Disk). record { disk = d; frees = frees; free = 0; marks = marks }) (p .1)))
+taken-new S n free image fat fats difats frees id m image' fat' fats' difats' z p s marks = (
+  rw (eq-eqb free 0 z) (p .0),
+  rw (eq-eqb free 0 z, s, z) (ap (λ (d : Disk). record { disk = d; frees = frees; free = 0; marks = marks }) (p .1)),
+)
 
 -- the last of the free list taken
 pub taken-free : (S n free : ℕ) (image fat fats difats frees : List ℕ) (image' fat' : List ℕ) → free ≢ 0
@@ -77,9 +76,10 @@ pub taken-free : (S n free : ℕ) (image fat fats difats frees : List ℕ) (imag
     × (record { disk = record { image = image'; fat = fat'; fats = fats; difats = difats; sectors = n }; frees = set frees (free - 1) 0; free = free - 1; marks = marks }
     ≡ takeSector S (record { disk = record { image = image; fat = fat; fats = fats; difats = difats; sectors = n }; frees = frees; free = free; marks = marks }))
 unfolding takenId takeSector
-taken-free S n free image fat fats difats frees image' fat' z p marks =
-    (rw (ne-eqb free 0 z),
-    rw (ne-eqb free 0 z) (ap (λ (d : Disk). record { disk = d; frees = set frees (free - 1) 0; free = free - 1; marks = marks }) (p difats n)))
+taken-free S n free image fat fats difats frees image' fat' z p marks = (
+  rw (ne-eqb free 0 z),
+  rw (ne-eqb free 0 z) (ap (λ (d : Disk). record { disk = d; frees = set frees (free - 1) 0; free = free - 1; marks = marks }) (p difats n)),
+)
 
 -- a sector taken, by whether one is FREE
 pub take-none : (S : ℕ) (h : Hand) → h .free ≡ 0 → takeSector S h ≡ record { disk = newSector S (h .disk); frees = h .frees; free = h .free; marks = h .marks }

@@ -15,23 +15,32 @@ Inv-loop image₀ s n free fat₀ fats₀ difats₀ frees₀ marks₀ ids₀ cou
 abbrev μ-loop : tie.MeasureT-loop
 μ-loop image₀ s n free fat₀ fats₀ difats₀ frees₀ marks₀ ids₀ count more taken₀ j₀ image fat fats difats frees marks ids taken j = more - j
 
+-- the turn that a call of `extend_one` is in, and where it came back
+abbrev turn : tie.After-extend-one-arg7 Inv-loop μ-loop → tie.In-loop Inv-loop μ-loop
+turn c = c .before .before .before .before .before .before .before
+
+abbrev extended : tie.After-slice-known14 Inv-loop μ-loop → tie.After-extend-one Inv-loop μ-loop
+extended c = c .before .before .before .before .before .before .before .before .before .before .before .before .before .before
+
 loop-holds : tie.Need-loop-holds Inv-loop μ-loop
 loop-holds c = extending-begun _ _ _ _ _ _ _ _ _ _ _ _ _ (c .before .before .before .before .before .before .before .pre)
 
 add-extend-one : tie.Need-add-extend-one Inv-loop μ-loop
-add-extend-one c = omega (arith, extending-small (c .before .before .before .before .before .before .before .before .loop .inv) (c .before .before .before .before .before .before .before .loop-test .taken))
+add-extend-one c = let t = turn c in omega (arith, extending-small (t .before .loop .inv) (t .loop-test .taken))
 
 extend-one-requires : tie.Need-extend-one-requires Inv-loop μ-loop
-extend-one-requires c κs = extending-one (c .before .before .before .before .before .before .before .before .loop .inv) (c .before .before .before .before .before .before .before .loop-test .taken) refl
+extend-one-requires c κs = let t = turn c in extending-one (t .before .loop .inv) (t .loop-test .taken) refl
 
 add-j : tie.Need-add-j Inv-loop μ-loop
-add-j c = omega (arith, c .before .before .before .before .before .before .before .before .before .before .before .before .before .before .before .before .before .before .before .before .before .before .loop-test .taken)
+add-j c = let t = turn (extended c .before) in omega (arith, t .loop-test .taken)
 
 loop-less : tie.Need-loop-less Inv-loop μ-loop
-loop-less c = omega (arith, c .before .before .before .before .before .before .before .before .before .before .before .before .before .before .before .before .before .before .before .before .before .before .loop-test .taken)
+loop-less c = let t = turn (extended c .before) in omega (arith, t .loop-test .taken)
 
 loop-again : tie.Need-loop-again Inv-loop μ-loop
-loop-again c = extending-on (c .before .before .before .before .before .before .before .before .before .before .before .before .before .before .before .before .before .before .before .before .before .before .before .loop .inv) (c .before .before .before .before .before .before .before .before .before .before .before .before .before .before .before .before .before .before .before .before .before .before .loop-test .taken) _ _ _ _ _ _ _ _ _ _ (c .before .before .before .before .before .before .before .before .before .before .before .before .before .before .extend-one .ensures)
+loop-again c = let e = extended c in
+    let t = turn (e .before) in
+    extending-on (t .before .loop .inv) (t .loop-test .taken) _ _ _ _ _ _ _ _ _ _ (e .extend-one .ensures)
 
 same-length : tie.Need-same-length Inv-loop μ-loop
 same-length c = c .before .loop .inv .long .image

@@ -5,17 +5,29 @@ use borrow.Author.Needs.{needs}
 use Rattle.moves.proofs.hand.extend_one.Statement.{statement}
 use Rattle.moves.proofs.hand.extend_one.Tie as tie
 
+-- where the sector was linked, where it was taken, and the function's entry
+abbrev linked : tie.After-slice-known15 → tie.After-link-last
+linked c = c .before .before .before .before .before .before
+
+abbrev taken : tie.After-link-last-arg5 → tie.After-take-sector-id
+taken c = c .before .before .before .before .before .before .before .before .before .before .before .before .before .before .before
+
+abbrev entry : tie.After-take-sector-id-arg5 → tie.Start
+entry c = c .before .before .before .before .before .before .before .before .before .before .before .before
+
 take-sector-id-requires : tie.Need-take-sector-id-requires
-take-sector-id-requires c κs = more-stock {m = 0} (c .before .before .before .before .before .before .before .before .before .before .before .before .pre)
+take-sector-id-requires c κs = more-stock {m = 0} (entry c .pre)
 
 link-last-requires : tie.Need-link-last-requires
-link-last-requires c κs = more-link {m = 0} (c .before .before .before .before .before .before .before .before .before .before .before .before .before .before .before .before .before .before .before .before .before .before .before .before .before .before .before .before .pre) _ (c .before .before .before .before .before .before .before .before .before .before .before .before .before .before .before .take-sector-id .ensures (c .before .before .before .before .before .before .before .before .before .before .before .before .before .before .before .before .before .before .before .before .before .before .before .before .before .before .before .before .args .marks .now) .1)
+link-last-requires c κs = let t = taken c in
+    let e = entry (t .before) in
+    more-link {m = 0} (e .pre) _ (t .take-sector-id .ensures (e .args .marks .now) .1)
 
 mul-ids : tie.Need-mul-ids
-mul-ids c = omega (arith, more-small {m = 0} (c .before .before .before .before .before .before .before .before .before .before .before .before .before .before .before .before .before .before .before .before .before .before .before .before .before .before .before .before .before .before .before .before .before .before .before .pre))
+mul-ids c = omega (arith, more-small {m = 0} (entry (taken (linked c .before) .before) .pre))
 
 slice-write-ids : tie.Need-slice-write-ids
-slice-write-ids c = more-place {m = 0} (c .before .before .before .before .before .before .before .before .before .before .before .before .before .before .before .before .before .before .before .before .before .before .before .before .before .before .before .before .before .before .before .before .before .before .before .pre)
+slice-write-ids c = more-place {m = 0} (entry (taken (linked c .before) .before) .pre)
 
 same-length : tie.Need-same-length
 same-length c = search needs
@@ -39,7 +51,8 @@ same-length-7 : tie.Need-same-length-7
 same-length-7 c = search needs
 
 returns : tie.Need-returns
-returns c = extended-of _ _ _ _ _ _ _ (c .before .before .before .before .before .before .before .before .before .before .before .before .before .before .before .before .before .before .before .before .before .before .take-sector-id .ensures _) (c .before .before .before .before .before .before .link-last .ensures _ _ _)
+returns c = let l = linked c in
+    extended-of _ _ _ _ _ _ _ (taken (l .before) .take-sector-id .ensures _) (l .link-last .ensures _ _ _)
 
 pub extend-one-spec : {M : Type 1} → statement M
 extend-one-spec =

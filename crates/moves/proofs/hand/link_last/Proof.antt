@@ -6,6 +6,13 @@ use borrow.Author.Needs.{needs}
 use Rattle.moves.proofs.hand.link_last.Statement.{statement}
 use Rattle.moves.proofs.hand.link_last.Tie as tie
 
+-- where the chain has a last sector, and the function's entry
+abbrev some : tie.After-point-arg3 → tie.Else1
+some c = c .before .before .before .before
+
+abbrev entry : tie.Else1 → tie.Start
+entry c = c .before .before .before .before .before .before
+
 returns : tie.Need-returns
 returns c = λ difats frees free. sym (linked-none _ _ _ _ _ (c .if1 .taken))
 
@@ -19,10 +26,10 @@ shared-slice-read-last : tie.Need-shared-slice-read-last
 shared-slice-read-last c = search needs
 
 cast-last : tie.Need-cast-last
-cast-last c = omega (arith, last-inside _ _ _ _ _ _ _ _ (c .before .before .before .before .before .before .before .pre) (c .before .if1 .left) .1 .0 .0)
+cast-last c = let t = c .before in omega (arith, last-inside _ _ _ _ _ _ _ _ (entry t .pre) (t .if1 .left) .1 .0 .0)
 
 point-requires : tie.Need-point-requires
-point-requires c κs = last-inside _ _ _ _ _ _ _ _ (c .before .before .before .before .before .before .before .before .before .before .pre) (c .before .before .before .before .if1 .left)
+point-requires c κs = let t = some c in last-inside _ _ _ _ _ _ _ _ (entry t .pre) (t .if1 .left)
 
 same-length : tie.Need-same-length
 same-length c = search needs
@@ -34,7 +41,7 @@ same-length-3 : tie.Need-same-length-3
 same-length-3 c = search needs
 
 returns-2 : tie.Need-returns-2
-returns-2 c = linked-points _ _ _ _ _ _ _ _ _ _ _ _ (c .before .before .before .before .before .before .before .before .before .before .before .if1 .left) (c .before .before .before .before .before .before .point .ensures)
+returns-2 c = let p = c .before .before .before .before .before .before in linked-points _ _ _ _ _ _ _ _ _ _ _ _ (some (p .before) .if1 .left) (p .point .ensures)
 
 pub link-last-spec : {M : Type 1} → statement M
 link-last-spec =
