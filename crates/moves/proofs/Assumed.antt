@@ -1,5 +1,5 @@
 -- The laws of the disk's changes that the moves go by. Assumes them: they are proved with the disk.
-use Prim.Native.Nat.{ℕ, suc, _+_, _-_, _/_, _≤_, _<_}
+use Prim.Native.Nat.{ℕ, suc, _+_, _/_, _≤_, _<_}
 use mathlib.Core.Path.{_≡_}
 use lib.ListN.{length, getD}
 use Rattle.sectors.specs.Sectors.{startOf, perSector}
@@ -19,11 +19,11 @@ pub new-fits : (S R : ℕ) (d : Disk) → FitsNew S R d → FitsWhole S R (newSe
 new-fits S R d f = ?h3
 
 -- how many sectors there are
-pub ready-sectors : (S R : ℕ) (d : Disk) → FitsNew S R d → suc (ready S d .sectors) ≡ oneMore S (d .sectors)
-ready-sectors S R d f = ?h4
+pub ready-sectors : (S : ℕ) (d : Disk) → suc (ready S d .sectors) ≡ oneMore S (d .sectors)
+ready-sectors S d = ?h4
 
-pub new-sectors : (S R : ℕ) (d : Disk) → FitsNew S R d → newSector S d .sectors ≡ oneMore S (d .sectors)
-new-sectors S R d f = ?h5
+pub new-sectors : (S : ℕ) (d : Disk) → newSector S d .sectors ≡ oneMore S (d .sectors)
+new-sectors S d = ?h5
 
 -- where an entry stands, and that it lies in the image
 pub entry-sector : (S R : ℕ) (d : Disk) (i : ℕ) → FitsWhole S R d → i < d .sectors → i / perSector S < fatCount S (d .sectors)
@@ -42,14 +42,21 @@ count-grows S n c = ?h9
 pub count-more : (S n c : ℕ) → countAfter S n (suc c) ≡ countAfter S (oneMore S n) c
 count-more S n c = ?h10
 
--- the image and the tables stay as long
-pub set-long : (S R k j : ℕ) (d : Disk) (i v : ℕ) → i / perSector S < k → Fits S R k j d → length (setFat S d i v .image) ≡ length (d .image)
-set-long S R k j d i v h f = ?h11
+pub reused-sectors : (S : ℕ) (d : Disk) (id : ℕ) → reused S d id .sectors ≡ d .sectors
+reused-sectors S d id = ?h11
 
-pub reused-long : (S R : ℕ) (d : Disk) (id : ℕ) → id < d .sectors → FitsWhole S R d → length (reused S d id .image) ≡ length (d .image)
-reused-long S R d id h f = ?h12
+-- the lent image and the lent tables are as long as they were
+pub record SameLong (d e : Disk) : Type 0 where
+  pub image-same : length (e .image) ≡ length (d .image)
+  pub fat-same : length (e .fat) ≡ length (d .fat)
+  pub fats-same : length (e .fats) ≡ length (d .fats)
+  pub difats-same : length (e .difats) ≡ length (d .difats)
 
-pub new-long : (S R : ℕ) (d : Disk) → FitsNew S R d
-    → (length (newSector S d .image) ≡ length (d .image)) × (length (newSector S d .fat) ≡ length (d .fat)) × (length (newSector S d .fats) ≡ length (d .fats))
-    × (length (newSector S d .difats) ≡ length (d .difats))
-new-long S R d f = ?h13
+pub set-long : (S R k j : ℕ) (d : Disk) (i v : ℕ) → i / perSector S < k → Fits S R k j d → SameLong d (setFat S d i v)
+set-long S R k j d i v h f = ?h12
+
+pub reused-long : (S R : ℕ) (d : Disk) (id : ℕ) → id < d .sectors → FitsWhole S R d → SameLong d (reused S d id)
+reused-long S R d id h f = ?h13
+
+pub new-long : (S R : ℕ) (d : Disk) → FitsNew S R d → SameLong d (newSector S d)
+new-long S R d f = ?h14

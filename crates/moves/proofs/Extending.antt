@@ -8,8 +8,8 @@ use Rattle.fat.specs.Lists.{most, roomOf}
 use Rattle.moves.specs.Disk.{countAfter}
 use Rattle.moves.specs.Hand.{Chain, extendOne, extend}
 use Rattle.moves.specs.Fits.{FitsChain, FitsMore}
-use Rattle.moves.proofs.Pointing.{handOf}
-use Rattle.moves.proofs.Linking.{SameLong, long-same, long-on, count-none, one-count, one-free, one-fits, one-long, one-counted, more-small, more-one}
+use Rattle.moves.proofs.Pointing.{handOf, long-none, long-then}
+use Rattle.moves.proofs.Linking.{ChainLong, count-none, one-count, one-free, one-fits, one-long, one-counted, more-small, more-one}
 
 -- no sector more, and one and the others
 pub extend-none : (S : ℕ) (c : Chain) → extend S c 0 ≡ c
@@ -34,16 +34,22 @@ pub extend-free : (S : ℕ) (c : Chain) (m : ℕ) → extend S c m .hand .free �
 extend-free S c zero = rw extend-none (omega arith)
 extend-free S c (suc m) = rw extend-more (extend-free S (extendOne S c) m ∙ omega (arith, one-free S c))
 
-pub extend-sectors : (S R m : ℕ) (c : Chain) → FitsMore S R m c → extend S c m .hand .disk .sectors ≡ countAfter S (c .hand .disk .sectors) (m - c .hand .free)
-extend-sectors S R zero c f =
+pub extend-sectors : (S : ℕ) (c : Chain) (m : ℕ) → extend S c m .hand .disk .sectors ≡ countAfter S (c .hand .disk .sectors) (m - c .hand .free)
+extend-sectors S c zero =
     let z : 0 - c .hand .free ≡ 0 = omega arith in
     rw (extend-none, z, count-none)
-extend-sectors S R (suc m) c f = rw extend-more (extend-sectors S R m (extendOne S c) (one-fits f) ∙ one-counted f)
+extend-sectors S c (suc m) = rw extend-more (extend-sectors S (extendOne S c) m ∙ one-counted S m c)
 
 -- everything that is lent stays as long
-pub extend-long : (S R m : ℕ) (c : Chain) → FitsMore S R m c → SameLong (extend S c m) c
-extend-long S R zero c f = rw extend-none (long-same c)
-extend-long S R (suc m) c f = rw extend-more (long-on (extend-long S R m (extendOne S c) (one-fits f)) (one-long f))
+same-chain : (c : Chain) → ChainLong c c
+same-chain c = record { hand = long-none (c .hand); ids-same = refl }
+
+chain-then : {c d e : Chain} → ChainLong c d → ChainLong d e → ChainLong c e
+chain-then p q = record { hand = long-then (p .hand) (q .hand); ids-same = q .ids-same ∙ p .ids-same }
+
+pub extend-long : (S R m : ℕ) (c : Chain) → FitsMore S R m c → ChainLong c (extend S c m)
+extend-long S R zero c f = rw extend-none (same-chain c)
+extend-long S R (suc m) c f = rw extend-more (chain-then (one-long f) (extend-long S R m (extendOne S c) (one-fits f)))
 
 -- a chain in hand, by its parts
 abbrev pub chainOf : ℕ → List ℕ → List ℕ → List ℕ → List ℕ → List ℕ → ℕ → List ℕ → List ℕ → ℕ → Chain
@@ -54,7 +60,7 @@ pub record Extending (S R : ℕ) (c₀ : Chain) (more j : ℕ) (c : Chain) : Typ
   pub fits : FitsMore S R (more - j) c
   pub turns : j ≤ more
   pub whole : extend S c₀ more ≡ extend S c (more - j)
-  pub long : SameLong c c₀
+  pub long : ChainLong c₀ c
 
 pub extending-begun : (S R n : ℕ) (image fat fats difats frees : List ℕ) (free : ℕ) (marks ids : List ℕ) (count more : ℕ)
     → FitsMore S R more (chainOf n image fat fats difats frees free marks ids count)
@@ -62,7 +68,7 @@ pub extending-begun : (S R n : ℕ) (image fat fats difats frees : List ℕ) (fr
 extending-begun S R n image fat fats difats frees free marks ids count more f =
     let a : count + 0 ≡ count = omega arith in
     let b : more - 0 ≡ more = omega arith in
-    record { fits = rw (a, b) f; turns = omega arith; whole = rw (a, b); long = rw a (long-same (chainOf n image fat fats difats frees free marks ids count)) }
+    record { fits = rw (a, b) f; turns = omega arith; whole = rw (a, b); long = rw a (same-chain (chainOf n image fat fats difats frees free marks ids count)) }
 
 -- a turn of it
 module _ {S R : ℕ} {c₀ : Chain} {more j : ℕ} {c : Chain} (g : Extending S R c₀ more j c) where
@@ -73,7 +79,7 @@ module _ {S R : ℕ} {c₀ : Chain} {more j : ℕ} {c : Chain} (g : Extending S 
   extending-small h = more-small (turn-fits h)
 
   pub extending-one : j < more → R ≡ roomOf S (length (c₀ .hand .disk .image)) → FitsMore S (roomOf S (length (c .hand .disk .image))) 1 c
-  extending-one h e = rw (g .long .image, ← e) (more-one (turn-fits h))
+  extending-one h e = rw (g .long .hand .disk .image-same, ← e) (more-one (turn-fits h))
 
   pub extending-turn : j < more → (e : Chain) → e ≡ extendOne S c → Extending S R c₀ more (j + 1) e
   extending-turn h e s =
@@ -82,7 +88,7 @@ module _ {S R : ℕ} {c₀ : Chain} {more j : ℕ} {c : Chain} (g : Extending S 
         fits = rw s (one-fits (turn-fits h));
         turns = omega (arith, h);
         whole = rw s (g .whole ∙ ap (extend S c) m ∙ extend-more S c (more - (j + 1)));
-        long = rw s (long-on (one-long (turn-fits h)) (g .long));
+        long = rw s (chain-then (g .long) (one-long (turn-fits h)));
       }
 
   -- and its end

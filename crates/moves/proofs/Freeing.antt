@@ -11,7 +11,7 @@ use Rattle.consts.specs.Consts.{freeSector}
 use Rattle.moves.specs.Disk.{setFat}
 use Rattle.moves.specs.Hand.{Hand, Chain, point, Points, freeSectorOf, freeRun}
 use Rattle.moves.specs.Fits.{FitsHand, FitsFrees, FitsChain}
-use Rattle.moves.proofs.Pointing.{handOf, points-hand, point-fits, point-image, point-tables}
+use Rattle.moves.proofs.Pointing.{handOf, HandLong, long-none, long-then, points-hand, point-fits, point-long}
 
 -- freeing leaves what the code asks for
 pub free-fits : (S R : ℕ) (h : Hand) (i : ℕ) → FitsHand S R h → i < h .disk .sectors → h .free < h .disk .sectors → FitsHand S R (freeSectorOf S h i)
@@ -75,33 +75,18 @@ free-run-sectors S h ids i (suc c) =
     rw free-more (free-run-sectors S (freeSectorOf S h (getD ids i 0)) ids (suc i) c ∙ free-one-sectors S h (getD ids i 0))
 
 -- everything that is lent stays as long
-pub free-one-image : (S R : ℕ) (h : Hand) (i : ℕ) → FitsHand S R h → i < h .disk .sectors → length (freeSectorOf S h i .disk .image) ≡ length (h .disk .image)
+pub free-long : (S R : ℕ) (h : Hand) (i : ℕ) → FitsHand S R h → i < h .disk .sectors → HandLong h (freeSectorOf S h i)
 unfolding freeSectorOf
-free-one-image S R h i f b = point-image S R h i freeSector f b
+free-long S R h i f b =
+    let p = point-long S R h i freeSector f b in
+    record { disk = p .disk; frees-same = length-set (h .frees) (h .free) i; marks-same = p .marks-same }
 
-pub free-one-tables : (S : ℕ) (h : Hand) (i : ℕ)
-    → (length (freeSectorOf S h i .disk .fat) ≡ length (h .disk .fat)) × (freeSectorOf S h i .disk .fats ≡ h .disk .fats) × (freeSectorOf S h i .disk .difats ≡ h .disk .difats)
-    × (length (freeSectorOf S h i .frees) ≡ length (h .frees)) × (length (freeSectorOf S h i .marks) ≡ length (h .marks))
-unfolding freeSectorOf
-free-one-tables S h i =
-    let p = point-tables S h i freeSector in
-    (p .0, p .1, p .2, length-set (h .frees) (h .free) i, p .4)
-
-pub free-run-image : (S R i c : ℕ) (ids : List ℕ) (h : Hand) → FitsFrees S R i c ids h → length (freeRun S h ids i c .disk .image) ≡ length (h .disk .image)
-free-run-image S R i zero ids h f = rw free-none
-free-run-image S R i (suc c) ids h f =
+pub free-run-long : (S R i c : ℕ) (ids : List ℕ) (h : Hand) → FitsFrees S R i c ids h → HandLong h (freeRun S h ids i c)
+free-run-long S R i zero ids h f = rw free-none (long-none h)
+free-run-long S R i (suc c) ids h f =
     rw free-more
-    (free-run-image S R (suc i) c ids (freeSectorOf S h (getD ids i 0)) (frees-more S R i c ids h f)
-    ∙ free-one-image S R h (getD ids i 0) (f .fits) (f .within i (omega arith)))
-
-pub free-run-tables : (S : ℕ) (h : Hand) (ids : List ℕ) (i c : ℕ)
-    → (length (freeRun S h ids i c .disk .fat) ≡ length (h .disk .fat)) × (freeRun S h ids i c .disk .fats ≡ h .disk .fats) × (freeRun S h ids i c .disk .difats ≡ h .disk .difats)
-    × (length (freeRun S h ids i c .frees) ≡ length (h .frees)) × (length (freeRun S h ids i c .marks) ≡ length (h .marks))
-free-run-tables S h ids i zero = rw free-none (refl, refl, refl, refl, refl)
-free-run-tables S h ids i (suc c) =
-    let p = free-run-tables S (freeSectorOf S h (getD ids i 0)) ids (suc i) c in
-    let q = free-one-tables S h (getD ids i 0) in
-    rw free-more (p .0 ∙ q .0, p .1 ∙ q .1, p .2 ∙ q .2, p .3 ∙ q .3, p .4 ∙ q .4)
+    (long-then (free-long S R h (getD ids i 0) (f .fits) (f .within i (omega arith)))
+    (free-run-long S R (suc i) c ids (freeSectorOf S h (getD ids i 0)) (frees-more S R i c ids h f)))
 
 -- sectors of a chain in hand can be freed, and what is left of the chain is one in hand then
 pub chain-frees : (S R i m : ℕ) (c : Chain) → FitsChain S R c → i + m ≤ c .count → FitsFrees S R i m (c .ids) (c .hand)

@@ -14,8 +14,8 @@ use Rattle.moves.specs.Disk.{oneMore, countAfter}
 use Rattle.moves.specs.Hand.{Hand, Chain, Points, point, takenId, takeSector, linked, extendOne}
 use Rattle.moves.specs.Fits.{FitsHand, FitsStock, FitsLast, FitsMore}
 use Rattle.moves.proofs.Assumed.{one-more-grows, count-grows, count-more}
-use Rattle.moves.proofs.Pointing.{handOf, points-hand, point-fits, point-inside, point-image, point-tables, point-counts}
-use Rattle.moves.proofs.Taking.{stock-of, take-sectors-new, take-sectors-same, take-sectors-grow, take-free, taken-below, take-fits, take-image, take-fat, take-fats, take-difats, take-frees, take-marks}
+use Rattle.moves.proofs.Pointing.{handOf, HandLong, long-none, long-then, points-hand, point-fits, point-inside, point-long, point-counts}
+use Rattle.moves.proofs.Taking.{stock-of, take-sectors-new, take-sectors-same, take-sectors-grow, take-free, taken-below, take-fits, take-long}
 
 -- a chain of none, and one with a last sector
 pub linked-none : (S : ℕ) (h : Hand) (ids : List ℕ) (count id : ℕ) → count ≡ 0 → linked S h ids count id ≡ h
@@ -72,47 +72,17 @@ module _ (S : ℕ) (h : Hand) (ids : List ℕ) (count id : ℕ) where
       (λ (e : count ≢ 0). rw (linked-last S h ids count id e) (point-counts S h (getD ids (count - 1) 0) id))
       (same-or count 0)
 
-  pub linked-image : (R : ℕ) → (0 < count → getD ids (count - 1) 0 < h .disk .sectors) → FitsHand S R h
-      → length (linked S h ids count id .disk .image) ≡ length (h .disk .image)
-  linked-image R b f =
+  pub linked-long : (R : ℕ) → (0 < count → getD ids (count - 1) 0 < h .disk .sectors) → FitsHand S R h → HandLong h (linked S h ids count id)
+  linked-long R b f =
       ⊎-elim
-      (λ (e : count ≡ 0). rw (linked-none S h ids count id e))
-      (λ (e : count ≢ 0). rw (linked-last S h ids count id e) (point-image S R h (getD ids (count - 1) 0) id f (b (omega (arith, e)))))
+      (λ (e : count ≡ 0). rw (linked-none S h ids count id e) (long-none h))
+      (λ (e : count ≢ 0). rw (linked-last S h ids count id e) (point-long S R h (getD ids (count - 1) 0) id f (b (omega (arith, e)))))
       (same-or count 0)
 
-  pub linked-tables : (length (linked S h ids count id .disk .fat) ≡ length (h .disk .fat)) × (linked S h ids count id .disk .fats ≡ h .disk .fats)
-      × (linked S h ids count id .disk .difats ≡ h .disk .difats) × (linked S h ids count id .frees ≡ h .frees)
-      × (length (linked S h ids count id .marks) ≡ length (h .marks))
-  linked-tables =
-      ⊎-elim
-      (λ (e : count ≡ 0). rw (linked-none S h ids count id e) (refl, refl, refl, refl, refl))
-      (λ (e : count ≢ 0). rw (linked-last S h ids count id e) (point-tables S h (getD ids (count - 1) 0) id))
-      (same-or count 0)
-
--- two chains in hand, of which everything that is lent is as long
-pub record SameLong (c e : Chain) : Type 0 where
-  pub image : length (c .hand .disk .image) ≡ length (e .hand .disk .image)
-  pub fat : length (c .hand .disk .fat) ≡ length (e .hand .disk .fat)
-  pub fats : length (c .hand .disk .fats) ≡ length (e .hand .disk .fats)
-  pub difats : length (c .hand .disk .difats) ≡ length (e .hand .disk .difats)
-  pub frees : length (c .hand .frees) ≡ length (e .hand .frees)
-  pub marks : length (c .hand .marks) ≡ length (e .hand .marks)
-  pub ids : length (c .ids) ≡ length (e .ids)
-
-pub long-same : (c : Chain) → SameLong c c
-long-same c = record { image = refl; fat = refl; fats = refl; difats = refl; frees = refl; marks = refl; ids = refl }
-
-pub long-on : {c d e : Chain} → SameLong c d → SameLong d e → SameLong c e
-long-on p q =
-    record {
-      image = p .image ∙ q .image;
-      fat = p .fat ∙ q .fat;
-      fats = p .fats ∙ q .fats;
-      difats = p .difats ∙ q .difats;
-      frees = p .frees ∙ q .frees;
-      marks = p .marks ∙ q .marks;
-      ids = p .ids ∙ q .ids;
-    }
+-- a chain of which everything that is lent is as long as it was
+pub record ChainLong (c e : Chain) : Type 0 where
+  pub hand : HandLong (c .hand) (e .hand)
+  pub ids-same : length (e .ids) ≡ length (c .ids)
 
 -- a chain with one sector more, by its parts
 pub extended-of : (S : ℕ) (h taken after : Hand) (ids : List ℕ) (count id : ℕ) → (id ≡ takenId S h) × (taken ≡ takeSector S h) → after ≡ linked S taken ids count id
@@ -135,7 +105,27 @@ pub one-free : (S : ℕ) (c : Chain) → extendOne S c .hand .free ≡ c .hand .
 unfolding extendOne
 one-free S c = linked-counts S (takeSector S (c .hand)) (c .ids) (c .count) (takenId S (c .hand)) .1 ∙ take-free S (c .hand)
 
--- how many sectors none more are
+pub one-sectors-new : (S : ℕ) (c : Chain) → c .hand .free ≡ 0 → extendOne S c .hand .disk .sectors ≡ oneMore S (c .hand .disk .sectors)
+one-sectors-new S c e = one-sectors S c ∙ take-sectors-new S (c .hand) e
+
+pub one-sectors-same : (S : ℕ) (c : Chain) → c .hand .free ≢ 0 → extendOne S c .hand .disk .sectors ≡ c .hand .disk .sectors
+one-sectors-same S c e = one-sectors S c ∙ take-sectors-same S (c .hand) e
+
+-- and how many with m more
+pub one-counted : (S m : ℕ) (c : Chain)
+    → countAfter S (extendOne S c .hand .disk .sectors) (m - extendOne S c .hand .free) ≡ countAfter S (c .hand .disk .sectors) (suc m - c .hand .free)
+one-counted S m c =
+    ⊎-elim
+    (λ (e : c .hand .free ≡ 0).
+    let left : m - (c .hand .free - 1) ≡ m = omega (arith, e) in
+    let all : suc m - c .hand .free ≡ suc m = omega (arith, e) in
+    rw (one-sectors-new S c e, one-free, left, all) (sym (count-more S (c .hand .disk .sectors) m)))
+    (λ (e : c .hand .free ≢ 0).
+    let left : m - (c .hand .free - 1) ≡ suc m - c .hand .free = omega (arith, e) in
+    rw (one-sectors-same S c e, one-free, left))
+    (same-or (c .hand .free) 0)
+
+-- no sector more is as many
 pub count-none : (S n : ℕ) → countAfter S n 0 ≡ n
 unfolding countAfter
 count-none S n = refl
@@ -180,32 +170,12 @@ module _ {S R m : ℕ} {c : Chain} (f : FitsMore S R (suc m) c) where
 
   pub more-last : 0 < c .count → getD (c .ids) (c .count - 1) 0 < takeSector S (c .hand) .disk .sectors
   more-last e =
-      omega (arith, f .fits .within (c .count - 1) (omega (arith, e)), take-sectors-grow S R (c .hand) (f .fits .fits) more-room)
+      omega (arith, f .fits .within (c .count - 1) (omega (arith, e)), take-sectors-grow S (c .hand))
 
   -- the link that the code asks for
   pub more-link : (taken : Hand) → taken ≡ takeSector S (c .hand)
       → FitsLast S (taken .disk .sectors) (length (taken .disk .image)) (length (taken .disk .fat)) (taken .disk .fats) (length (taken .marks)) (c .ids) (c .count)
   more-link taken e = rw e (last-fits S R (takeSector S (c .hand)) (c .ids) (c .count) more-taken (omega (arith, more-place)) more-last)
-
-  -- how many sectors there are with the one that is taken
-  pub one-sectors-new : c .hand .free ≡ 0 → extendOne S c .hand .disk .sectors ≡ oneMore S (c .hand .disk .sectors)
-  one-sectors-new e = one-sectors S c ∙ take-sectors-new S R (c .hand) (f .fits .fits) more-room e
-
-  pub one-sectors-same : c .hand .free ≢ 0 → extendOne S c .hand .disk .sectors ≡ c .hand .disk .sectors
-  one-sectors-same e = one-sectors S c ∙ take-sectors-same S R (c .hand) (f .fits .fits) more-room e
-
-  -- and with m more
-  pub one-counted : countAfter S (extendOne S c .hand .disk .sectors) (m - extendOne S c .hand .free) ≡ countAfter S (c .hand .disk .sectors) (suc m - c .hand .free)
-  one-counted =
-      ⊎-elim
-      (λ (e : c .hand .free ≡ 0).
-      let left : m - (c .hand .free - 1) ≡ m = omega (arith, e) in
-      let all : suc m - c .hand .free ≡ suc m = omega (arith, e) in
-      rw (one-sectors-new e, one-free, left, all) (sym (count-more S (c .hand .disk .sectors) m)))
-      (λ (e : c .hand .free ≢ 0).
-      let left : m - (c .hand .free - 1) ≡ suc m - c .hand .free = omega (arith, e) in
-      rw (one-sectors-same e, one-free, left))
-      (same-or (c .hand .free) 0)
 
   -- what the code asks for is left, for m sectors more
   one-hand : FitsHand S R (extendOne S c .hand)
@@ -219,7 +189,7 @@ module _ {S R m : ℕ} {c : Chain} (f : FitsMore S R (suc m) c) where
       (λ (e : j ≡ c .count). rw (e, getD-set-same (c .ids) (c .count) (takenId S (c .hand)) 0 more-place) (taken-below S R (c .hand) (f .fits .fits) more-room))
       (λ (e : j ≢ c .count).
       rw (getD-set-other (c .ids) (c .count) j (takenId S (c .hand)) 0 e)
-      (omega (arith, f .fits .within j (omega (arith, l, e)), take-sectors-grow S R (c .hand) (f .fits .fits) more-room)))
+      (omega (arith, f .fits .within j (omega (arith, l, e)), take-sectors-grow S (c .hand))))
       (same-or j (c .count))
 
   one-ids : length (extendOne S c .ids) ≡ length (c .ids)
@@ -229,8 +199,8 @@ module _ {S R m : ℕ} {c : Chain} (f : FitsMore S R (suc m) c) where
   one-few : suc (c .count) + (c .hand .free - 1) ≤ extendOne S c .hand .disk .sectors
   one-few =
       ⊎-elim
-      (λ (e : c .hand .free ≡ 0). omega (arith, e, f .fits .few, one-sectors-new e, one-more-grows S (c .hand .disk .sectors)))
-      (λ (e : c .hand .free ≢ 0). omega (arith, e, f .fits .few, one-sectors-same e))
+      (λ (e : c .hand .free ≡ 0). omega (arith, e, f .fits .few, one-sectors-new S c e, one-more-grows S (c .hand .disk .sectors)))
+      (λ (e : c .hand .free ≢ 0). omega (arith, e, f .fits .few, one-sectors-same S c e))
       (same-or (c .hand .free) 0)
 
   pub one-fits : FitsMore S R m (extendOne S c)
@@ -242,22 +212,15 @@ module _ {S R m : ℕ} {c : Chain} (f : FitsMore S R (suc m) c) where
           within = λ j l. rw one-sectors (one-within j (rw one-count at l));
           few = rw (one-count, one-free) one-few;
         };
-        room = rw one-counted (f .room);
+        room = rw (one-counted S m c) (f .room);
       }
 
   -- everything that is lent stays as long
-  pub one-long : SameLong (extendOne S c) c
+  pub one-long : ChainLong c (extendOne S c)
   unfolding extendOne
   one-long =
-      let h = takeSector S (c .hand) in
-      let id = takenId S (c .hand) in
-      let t = linked-tables S h (c .ids) (c .count) id in
       record {
-        image = linked-image S h (c .ids) (c .count) id R more-last more-taken ∙ take-image S R (c .hand) (f .fits .fits) more-room;
-        fat = t .0 ∙ take-fat S R (c .hand) (f .fits .fits) more-room;
-        fats = ap length (t .1) ∙ take-fats S R (c .hand) (f .fits .fits) more-room;
-        difats = ap length (t .2) ∙ take-difats S R (c .hand) (f .fits .fits) more-room;
-        frees = ap length (t .3) ∙ take-frees S R (c .hand) (f .fits .fits) more-room;
-        marks = t .4 ∙ ap length (take-marks S R (c .hand) (f .fits .fits) more-room);
-        ids = length-set (c .ids) (c .count) id;
+        hand = long-then (take-long S R (c .hand) (f .fits .fits) more-room)
+            (linked-long S (takeSector S (c .hand)) (c .ids) (c .count) (takenId S (c .hand)) R more-last more-taken);
+        ids-same = length-set (c .ids) (c .count) (takenId S (c .hand));
       }

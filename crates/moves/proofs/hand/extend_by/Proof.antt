@@ -43,25 +43,25 @@ loop-again c = let e = extended c in
     extending-on (t .before .loop .inv) (t .loop-test .taken) _ _ _ _ _ _ _ _ _ _ (e .extend-one .ensures)
 
 same-length : tie.Need-same-length Inv-loop μ-loop
-same-length c = c .before .loop .inv .long .image
+same-length c = c .before .loop .inv .long .hand .disk .image-same
 
 same-length-2 : tie.Need-same-length-2 Inv-loop μ-loop
-same-length-2 c = c .before .loop .inv .long .fat
+same-length-2 c = c .before .loop .inv .long .hand .disk .fat-same
 
 same-length-3 : tie.Need-same-length-3 Inv-loop μ-loop
-same-length-3 c = c .before .loop .inv .long .fats
+same-length-3 c = c .before .loop .inv .long .hand .disk .fats-same
 
 same-length-4 : tie.Need-same-length-4 Inv-loop μ-loop
-same-length-4 c = c .before .loop .inv .long .difats
+same-length-4 c = c .before .loop .inv .long .hand .disk .difats-same
 
 same-length-5 : tie.Need-same-length-5 Inv-loop μ-loop
-same-length-5 c = c .before .loop .inv .long .frees
+same-length-5 c = c .before .loop .inv .long .hand .frees-same
 
 same-length-6 : tie.Need-same-length-6 Inv-loop μ-loop
-same-length-6 c = c .before .loop .inv .long .marks
+same-length-6 c = c .before .loop .inv .long .hand .marks-same
 
 same-length-7 : tie.Need-same-length-7 Inv-loop μ-loop
-same-length-7 c = c .before .loop .inv .long .ids
+same-length-7 c = c .before .loop .inv .long .ids-same
 
 returns : tie.Need-returns Inv-loop μ-loop
 returns c = extending-end _ (c .before .loop .inv) (c .loop-test .left)
