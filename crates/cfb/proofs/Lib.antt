@@ -2,7 +2,10 @@ pub mod Agreed
 pub mod Answering
 pub mod Calling
 pub mod Clearing
+pub mod Ending
 pub mod Facing
+pub mod Fitted
 pub mod Given
 pub mod Lying
+pub mod Ready
 pub mod Refusing

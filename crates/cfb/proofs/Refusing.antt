@@ -148,7 +148,7 @@ module _ (s : State) (img : List ℕ) (t : Tables) (room start : ℕ) where
       refused-start z = strict-rows ∙ append-none (walkRows (walked s t start)) (row 25 (startPointed s t start) ∷ []) refl (sym (chain-later passed) ∙ z)
 
 -- an element of a list with zeros after it
-padded-front : (xs : List ℕ) (m i : ℕ) → i < length xs → getD (padded xs m) i 0 ≡ getD xs i 0
+pub padded-front : (xs : List ℕ) (m i : ℕ) → i < length xs → getD (padded xs m) i 0 ≡ getD xs i 0
 unfolding padded
 padded-front xs m i h = List·getD-append xs (replicate (m - length xs) 0) 0 i h
 
