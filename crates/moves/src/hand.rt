@@ -110,7 +110,7 @@ pub fn free_run(
     from: usize,
     count: usize,
 )
-    requires { ⌜ ((difats : List ℕ) → FitsFrees s (roomOf s (length (now image))) from count (now ids) (record { disk = record { image = now image; fat = now fat; fats = now fats; difats = difats; sectors = n }; frees = now frees; free = free; marks = now marks })) ⌝ }
+    requires { ⌜ ((difats : List ℕ) × FitsFrees s (roomOf s (length (now image))) from count (now ids) (record { disk = record { image = now image; fat = now fat; fats = now fats; difats = difats; sectors = n }; frees = now frees; free = free; marks = now marks })) ⌝ }
     ensures { λ _. ⌜ ((difats : List ℕ) → record { disk = record { image = now (image .exit); fat = now (fat .exit); fats = now (fats .exit); difats = difats; sectors = n }; frees = now (frees .exit); free = (free + count); marks = now (marks .exit) } ≡ freeRun s (record { disk = record { image = now (image .entry); fat = now (fat .entry); fats = now (fats .entry); difats = difats; sectors = n }; frees = now (frees .entry); free = free; marks = now (marks .entry) }) (now (ids .entry)) from count) ⌝ }
 {
     let mut j = 0;

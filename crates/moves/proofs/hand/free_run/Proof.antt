@@ -1,0 +1,90 @@
+-- The invariant: what is left to free from here on is the whole. A turn points the entry at FREE and lists the id.
+use Prim.Native.Nat.{_-_}
+use native.Mathlib.Omega.{arith}
+use lib.ListN.{length}
+use Rattle.fat.specs.Lists.{roomOf}
+use Rattle.moves.proofs.Pointing.{point-inside}
+use Rattle.moves.proofs.Freeing.{Freeing, freeing-begun, freeing-id, freeing-listed, freeing-place, freeing-on, freeing-over}
+use Rattle.moves.proofs.hand.free_run.Statement.{statement}
+use Rattle.moves.proofs.hand.free_run.Tie as tie
+
+abbrev Inv-loop : tie.InvT-loop
+Inv-loop image₀ s n free fat₀ fats frees₀ marks₀ ids from count j₀ image fat frees marks j = Freeing s (roomOf s (length image₀)) n free image₀ fat₀ fats frees₀ marks₀ ids from count image fat frees marks j
+
+abbrev μ-loop : tie.MeasureT-loop
+μ-loop image₀ s n free fat₀ fats frees₀ marks₀ ids from count j₀ image fat frees marks j = count - j
+
+loop-holds : tie.Need-loop-holds Inv-loop μ-loop
+loop-holds c = freeing-begun _ _ _ _ _ _ _ _ _ _ _ _ (c .before .before .before .before .before .before .pre)
+
+add-id : tie.Need-add-id Inv-loop μ-loop
+add-id c = omega (arith, freeing-listed (c .before .loop .inv) (c .loop-test .taken))
+
+mul-id : tie.Need-mul-id Inv-loop μ-loop
+mul-id c = omega (arith, freeing-listed (c .before .loop .inv) (c .loop-test .taken))
+
+shared-slice-read-id : tie.Need-shared-slice-read-id Inv-loop μ-loop
+shared-slice-read-id c = freeing-listed (c .before .before .loop .inv) (c .before .loop-test .taken)
+
+cast-point : tie.Need-cast-point Inv-loop μ-loop
+cast-point c = omega (arith, freeing-id (c .before .before .before .before .before .loop .inv) (c .before .before .before .before .loop-test .taken))
+
+point-requires : tie.Need-point-requires Inv-loop μ-loop
+point-requires c κs = point-inside _ _ _ _ (c .before .before .before .before .before .loop .inv .fits .fits) (freeing-id (c .before .before .before .before .before .loop .inv) (c .before .before .before .before .loop-test .taken))
+
+add-frees : tie.Need-add-frees Inv-loop μ-loop
+add-frees c = omega (arith, freeing-place (c .before .before .before .before .before .before .before .before .before .before .before .before .loop .inv) (c .before .before .before .before .before .before .before .before .before .before .before .loop-test .taken))
+
+mul-frees : tie.Need-mul-frees Inv-loop μ-loop
+mul-frees c = omega (arith, freeing-place (c .before .before .before .before .before .before .before .before .before .before .before .before .loop .inv) (c .before .before .before .before .before .before .before .before .before .before .before .loop-test .taken))
+
+slice-write-frees : tie.Need-slice-write-frees Inv-loop μ-loop
+slice-write-frees c = freeing-place (c .before .before .before .before .before .before .before .before .before .before .before .before .loop .inv) (c .before .before .before .before .before .before .before .before .before .before .before .loop-test .taken)
+
+add-j : tie.Need-add-j Inv-loop μ-loop
+add-j c = omega (arith, c .before .before .before .before .before .before .before .before .before .before .before .loop-test .taken)
+
+loop-less : tie.Need-loop-less Inv-loop μ-loop
+loop-less c = omega (arith, c .before .before .before .before .before .before .before .before .before .before .before .loop-test .taken)
+
+loop-again : tie.Need-loop-again Inv-loop μ-loop
+loop-again c = freeing-on (c .before .before .before .before .before .before .before .before .before .before .before .before .loop .inv) (c .before .before .before .before .before .before .before .before .before .before .before .loop-test .taken) _ _ _ (c .before .before .before .before .before .before .point .ensures) (c .before .before .before .before .before .before .point .kept .0) (c .before .before .before .before .before .before .point .kept .1 .1 .1 .0) (c .before .before .before .before .before .before .point .kept .1 .1 .1 .1 .1 .0)
+
+same-length : tie.Need-same-length Inv-loop μ-loop
+same-length c = c .before .loop .inv .image-long
+
+same-length-2 : tie.Need-same-length-2 Inv-loop μ-loop
+same-length-2 c = c .before .loop .inv .fat-long
+
+same-length-3 : tie.Need-same-length-3 Inv-loop μ-loop
+same-length-3 c = c .before .loop .inv .frees-long
+
+same-length-4 : tie.Need-same-length-4 Inv-loop μ-loop
+same-length-4 c = c .before .loop .inv .marks-long
+
+returns : tie.Need-returns Inv-loop μ-loop
+returns c = freeing-over (c .before .loop .inv) (c .loop-test .left)
+
+pub free-run-spec : {M : Type 1} → statement M
+free-run-spec =
+    tie.close
+    (tie.spec
+    Inv-loop
+    μ-loop
+    loop-holds
+    add-id
+    mul-id
+    shared-slice-read-id
+    cast-point
+    point-requires
+    add-frees
+    mul-frees
+    slice-write-frees
+    add-j
+    loop-less
+    loop-again
+    same-length
+    same-length-2
+    same-length-3
+    same-length-4
+    returns)
