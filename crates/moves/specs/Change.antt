@@ -3,20 +3,20 @@ use Prim.Native.Nat.{ℕ, _+_, _-_, _*_, _≤_, _<_}
 use mathlib.Core.Path.{_≡_}
 use mathlib.Core.Logic.{_≢_}
 use mathlib.Core.List.{List}
-use lib.Dec.{eqb, ltb}
+use lib.Dec.{ltb}
 use lib.ListN.{length, getD, take}
 use Rattle.lists.specs.Lists.{choose}
 use Rattle.consts.specs.Consts.{endOfChain}
 use Rattle.fat.specs.Lists.{ceil}
 use Rattle.alloc.specs.Opened.{padded}
 use Rattle.chain.specs.Stores.{writeBytes, zeroTail}
-use Rattle.moves.specs.Fits.{FitsChain, FitsMore}
-use Rattle.moves.specs.Hand.{Hand, Chain, point, freeRun, extend}
+use Rattle.moves.specs.Fits.{FitsHand, FitsChain, FitsMore}
+use Rattle.moves.specs.Hand.{Hand, Chain, linked, freeRun, extend}
 
 -- the last of the first m sectors ends the chain
 unfoldable pub cut : ℕ → Hand → List ℕ → ℕ → Hand
-unfolding point
-cut S h ids m = choose (eqb m 0) h (point S h (getD ids (m - 1) 0) endOfChain)
+unfolding linked
+cut S h ids m = linked S h ids m endOfChain
 
 -- document 01, Resize: the tail behind m sectors is freed, in chain order
 unfoldable pub shrink : ℕ → Chain → ℕ → Chain
@@ -74,6 +74,12 @@ pub record Apart (c : Chain) : Type 0 where
   pub ids-once : (i j : ℕ) → i < c .count → j < c .count → getD (c .ids) i 0 ≡ getD (c .ids) j 0 → i ≡ j
   pub frees-once : (i j : ℕ) → i < c .hand .free → j < c .hand .free → getD (c .hand .frees) i 0 ≡ getD (c .hand .frees) j 0 → i ≡ j
   pub ids-frees : (i j : ℕ) → i < c .count → j < c .hand .free → getD (c .ids) i 0 ≢ getD (c .hand .frees) j 0
+
+-- the last of the first m ids, if any, is a sector in hand
+pub record FitsCut (S R m : ℕ) (ids : List ℕ) (h : Hand) : Type 0 where
+  pub fits : FitsHand S R h
+  pub listed : m ≤ length ids
+  pub last : 0 < m → getD ids (m - 1) 0 < h .disk .sectors
 
 -- a chain that can be cut behind m of its sectors
 pub record FitsShrink (S R m : ℕ) (c : Chain) : Type 0 where
