@@ -20,11 +20,11 @@ use Rattle.moves.proofs.Freeing.{free-run-count, free-run-sectors}
 use Rattle.moves.proofs.AssumedToo.{ChainLong, long-none, long-then, linked-none, linked-last, linked-fits, linked-counts, linked-long, free-run-long, chain-frees, chain-freed}
 
 -- what is in hand, by its parts, and a chain
-abbrev handOf : ℕ → List ℕ → List ℕ → List ℕ → List ℕ → List ℕ → ℕ → List ℕ → Hand
+abbrev pub handOf : ℕ → List ℕ → List ℕ → List ℕ → List ℕ → List ℕ → ℕ → List ℕ → Hand
 handOf n image fat fats difats frees free marks =
     record { disk = record { image = image; fat = fat; fats = fats; difats = difats; sectors = n }; frees = frees; free = free; marks = marks }
 
-abbrev chainOf : ℕ → List ℕ → List ℕ → List ℕ → List ℕ → List ℕ → ℕ → List ℕ → List ℕ → ℕ → Chain
+abbrev pub chainOf : ℕ → List ℕ → List ℕ → List ℕ → List ℕ → List ℕ → ℕ → List ℕ → List ℕ → ℕ → Chain
 chainOf n image fat fats difats frees free marks ids count = record { hand = handOf n image fat fats difats frees free marks; ids = ids; count = count }
 
 -- a list that is zero from place m on: it is as long, and what stands before m stays
@@ -115,7 +115,7 @@ module _ (S R m : ℕ) (c : Chain) (f : FitsShrink S R m c) where
   shrunk-fits : FitsChain S R (record { hand = freeRun S cutOf (c .ids) m (c .count - m); ids = padded (take m (c .ids)) (length (c .ids)); count = m })
   shrunk-fits =
       let g : FitsChain S R (record { hand = freeRun S cutOf (c .ids) m (c .count - m); ids = c .ids; count = m })
-          = chain-freed S R m (c .count - m) (record { hand = cutOf; ids = c .ids; count = c .count }) cut-chain (omega (arith, f .within)) in
+      = chain-freed S R m (c .count - m) (record { hand = cutOf; ids = c .ids; count = c .count }) cut-chain (omega (arith, f .within)) in
       record {
         fits = g .fits;
         ids-long = rw (padded-long (c .ids) m shrink-place) (g .ids-long);

@@ -94,9 +94,9 @@ module _ (S R m : ℕ) (c : Chain) (f : FitsMore S R (suc m) c) (a : Apart c) wh
       record {
         ids-once = λ i j hi hj e. one-ids-once i j (same-or i (c .count)) (same-or j (c .count)) (rw one-count at hi) (rw one-count at hj) e;
         frees-once = λ i j hi hj e.
-        let li : i < c .hand .free - 1 = rw one-free at hi in
-        let lj : j < c .hand .free - 1 = rw one-free at hj in
-        a .frees-once i j (omega arith) (omega arith) (sym (one-frees-at S c i li) ∙ e ∙ one-frees-at S c j lj);
+            let li : i < c .hand .free - 1 = rw one-free at hi in
+            let lj : j < c .hand .free - 1 = rw one-free at hj in
+            a .frees-once i j (omega arith) (omega arith) (sym (one-frees-at S c i li) ∙ e ∙ one-frees-at S c j lj);
         ids-frees = λ i j hi hj. one-ids-frees i j (same-or i (c .count)) (rw one-count at hi) (rw one-free at hj);
       }
 
