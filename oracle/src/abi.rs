@@ -92,7 +92,21 @@ pub struct Lent<'a> {
     pub tables: &'a Tables,
 }
 
-/// What a call on a chain answers: how many ids there are, the start, how many bytes were read.
+/// What every call that changes a chain is lent: the same, to be changed.
+pub struct Handed<'a> {
+    pub state: &'a mut State,
+    pub image: &'a mut [u8],
+    pub tables: &'a mut Tables,
+}
+
+impl Handed<'_> {
+    /// The same, to look at.
+    pub fn lent(&self) -> Lent<'_> {
+        Lent { state: self.state, image: self.image, tables: self.tables }
+    }
+}
+
+/// What a call on a chain answers: how many ids there are, the start, how many bytes were read or written.
 pub type Answer = [u64; 3];
 
 /// Kinds of an item of `prettify`.
@@ -104,14 +118,18 @@ pub const DIFAT: u32 = 4;
 pub const RANGE: u32 = 5;
 
 #[cfg(feature = "model")]
-pub use crate::model::{kind_of, open, open_chain, prettify, read_chain, read_header, sector_text, write_header};
+pub use crate::model::{free_chain, open_chain, read_chain, resize_chain, write_chain};
+#[cfg(feature = "model")]
+pub use crate::model::{kind_of, open, prettify, read_header, sector_text, write_header};
 
 #[cfg(not(feature = "model"))]
-pub use archive::{kind_of, open, open_chain, prettify, read_chain, read_header, sector_text, write_header};
+pub use archive::{free_chain, open_chain, read_chain, resize_chain, write_chain};
+#[cfg(not(feature = "model"))]
+pub use archive::{kind_of, open, prettify, read_header, sector_text, write_header};
 
 #[cfg(not(feature = "model"))]
 mod archive {
-    use super::{Answer, Lent, State, Tables, Words};
+    use super::{Answer, Handed, Lent, State, Tables, Words};
 
     extern "C" {
         fn rasuvelk_read_header(bytes: *const u8, len: usize, mode: u32, words: *mut Words) -> u32;
@@ -175,6 +193,67 @@ mod archive {
             offset: u64,
             buf: *mut u8,
             buf_len: usize,
+            answer: *mut Answer,
+        ) -> u32;
+        fn rasuvelk_write_chain(
+            state: *mut State,
+            image: *mut u8,
+            image_len: usize,
+            fat: *mut u32,
+            fat_len: usize,
+            fats: *mut u32,
+            fats_len: usize,
+            difats: *mut u32,
+            difats_len: usize,
+            frees: *mut u32,
+            frees_len: usize,
+            marks: *mut u8,
+            marks_len: usize,
+            ids: *mut u32,
+            ids_len: usize,
+            start: u32,
+            offset: u64,
+            buf: *const u8,
+            buf_len: usize,
+            answer: *mut Answer,
+        ) -> u32;
+        fn rasuvelk_resize_chain(
+            state: *mut State,
+            image: *mut u8,
+            image_len: usize,
+            fat: *mut u32,
+            fat_len: usize,
+            fats: *mut u32,
+            fats_len: usize,
+            difats: *mut u32,
+            difats_len: usize,
+            frees: *mut u32,
+            frees_len: usize,
+            marks: *mut u8,
+            marks_len: usize,
+            ids: *mut u32,
+            ids_len: usize,
+            start: u32,
+            length: u64,
+            answer: *mut Answer,
+        ) -> u32;
+        fn rasuvelk_free_chain(
+            state: *mut State,
+            image: *mut u8,
+            image_len: usize,
+            fat: *mut u32,
+            fat_len: usize,
+            fats: *mut u32,
+            fats_len: usize,
+            difats: *mut u32,
+            difats_len: usize,
+            frees: *mut u32,
+            frees_len: usize,
+            marks: *mut u8,
+            marks_len: usize,
+            ids: *mut u32,
+            ids_len: usize,
+            start: u32,
             answer: *mut Answer,
         ) -> u32;
     }
@@ -294,6 +373,99 @@ mod archive {
                 offset,
                 buf.as_mut_ptr(),
                 buf.len(),
+                answer,
+            )
+        }
+    }
+
+    /// Writes a buffer to a chain from an offset, and lists its ids; 0, or the number of the refusal.
+    pub fn write_chain(
+        handed: &mut Handed,
+        ids: &mut [u32],
+        start: u32,
+        offset: u64,
+        buf: &[u8],
+        answer: &mut Answer,
+    ) -> u32 {
+        let Handed { state, image, tables } = handed;
+        // SAFETY: each pointer and the length after it are those of one live slice; all but the buffer are lent alone, and
+        // the tables are vectors of their own.
+        unsafe {
+            rasuvelk_write_chain(
+                *state,
+                image.as_mut_ptr(),
+                image.len(),
+                tables.fat.as_mut_ptr(),
+                tables.fat.len(),
+                tables.fats.as_mut_ptr(),
+                tables.fats.len(),
+                tables.difats.as_mut_ptr(),
+                tables.difats.len(),
+                tables.frees.as_mut_ptr(),
+                tables.frees.len(),
+                tables.marks.as_mut_ptr(),
+                tables.marks.len(),
+                ids.as_mut_ptr(),
+                ids.len(),
+                start,
+                offset,
+                buf.as_ptr(),
+                buf.len(),
+                answer,
+            )
+        }
+    }
+
+    /// Makes a chain as long as it must be for so many bytes, and lists its ids; 0, or the number of the refusal.
+    pub fn resize_chain(handed: &mut Handed, ids: &mut [u32], start: u32, length: u64, answer: &mut Answer) -> u32 {
+        let Handed { state, image, tables } = handed;
+        // SAFETY: as above, and there is no buffer.
+        unsafe {
+            rasuvelk_resize_chain(
+                *state,
+                image.as_mut_ptr(),
+                image.len(),
+                tables.fat.as_mut_ptr(),
+                tables.fat.len(),
+                tables.fats.as_mut_ptr(),
+                tables.fats.len(),
+                tables.difats.as_mut_ptr(),
+                tables.difats.len(),
+                tables.frees.as_mut_ptr(),
+                tables.frees.len(),
+                tables.marks.as_mut_ptr(),
+                tables.marks.len(),
+                ids.as_mut_ptr(),
+                ids.len(),
+                start,
+                length,
+                answer,
+            )
+        }
+    }
+
+    /// Frees a chain; 0, or the number of the refusal.
+    pub fn free_chain(handed: &mut Handed, ids: &mut [u32], start: u32, answer: &mut Answer) -> u32 {
+        let Handed { state, image, tables } = handed;
+        // SAFETY: as above.
+        unsafe {
+            rasuvelk_free_chain(
+                *state,
+                image.as_mut_ptr(),
+                image.len(),
+                tables.fat.as_mut_ptr(),
+                tables.fat.len(),
+                tables.fats.as_mut_ptr(),
+                tables.fats.len(),
+                tables.difats.as_mut_ptr(),
+                tables.difats.len(),
+                tables.frees.as_mut_ptr(),
+                tables.frees.len(),
+                tables.marks.as_mut_ptr(),
+                tables.marks.len(),
+                ids.as_mut_ptr(),
+                ids.len(),
+                start,
                 answer,
             )
         }

@@ -4,7 +4,7 @@ use crate::abi::{self, Tables, Words};
 use crate::image;
 use crate::internal::consts::{self, Sector};
 use crate::internal::{Allocator, Chain, Header, SectorInit, Validation, Version};
-use std::io::{Error, ErrorKind, Read, Seek, SeekFrom};
+use std::io::{Error, ErrorKind, Read, Seek, SeekFrom, Write};
 
 /// How the Rust's messages begin, and the refusal that each is.
 const CAUSES: [(&str, u32); 8] = [
@@ -134,6 +134,34 @@ pub fn read_chain<F: Read + Seek>(
             read => done += read,
         }
     }
+}
+
+/// A chain's ids after a buffer was written from an offset, or the refusal. One write is a run of sectors that follow one
+/// another, so it is `write_all`.
+pub fn write_chain<F: Write + Seek>(
+    allocator: &mut Allocator<F>,
+    start: u32,
+    offset: u64,
+    buf: &[u8],
+) -> Result<Vec<u32>, u32> {
+    let mut chain = Chain::new(allocator, start, SectorInit::Zero).map_err(chain_number)?;
+    chain.seek(SeekFrom::Start(offset)).map_err(chain_number)?;
+    chain.write_all(buf).unwrap();
+    Ok(chain.sector_ids().to_vec())
+}
+
+/// A chain's ids after `set_len`, or the refusal.
+pub fn resize_chain<F: Write + Seek>(allocator: &mut Allocator<F>, start: u32, length: u64) -> Result<Vec<u32>, u32> {
+    let mut chain = Chain::new(allocator, start, SectorInit::Zero).map_err(chain_number)?;
+    chain.set_len(length).unwrap();
+    Ok(chain.sector_ids().to_vec())
+}
+
+/// No ids after `free`, or the refusal.
+pub fn free_chain<F: Write + Seek>(allocator: &mut Allocator<F>, start: u32) -> Result<Vec<u32>, u32> {
+    let chain = Chain::new(allocator, start, SectorInit::Zero).map_err(chain_number)?;
+    chain.free().unwrap();
+    Ok(vec![])
 }
 
 /// The words of a header.

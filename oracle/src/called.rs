@@ -35,19 +35,19 @@ pub fn rubbish(length: usize) -> Vec<u8> {
 }
 
 /// A copy of a list between elements that must stay.
-fn between<T: Copy>(list: &[T], around: T) -> Vec<T> {
+pub(crate) fn between<T: Copy>(list: &[T], around: T) -> Vec<T> {
     let sides = [around; AROUND];
     [&sides, list, &sides].concat()
 }
 
 /// The lent part of such a copy.
-fn inside<T>(list: &mut [T]) -> &mut [T] {
+pub(crate) fn inside<T>(list: &mut [T]) -> &mut [T] {
     let end = list.len() - AROUND;
     &mut list[AROUND..end]
 }
 
 /// The list without what stands around it, which has stayed.
-fn taken_out<T: Copy + PartialEq>(mut list: Vec<T>, around: T) -> Vec<T> {
+pub(crate) fn taken_out<T: Copy + PartialEq>(mut list: Vec<T>, around: T) -> Vec<T> {
     let end = list.len() - AROUND;
     assert!(list[..AROUND].iter().chain(&list[end..]).all(|&element| element == around), "written past an end");
     list.truncate(end);
@@ -129,6 +129,6 @@ impl Call<'_> {
 }
 
 /// The beginning of a table as text.
-fn first<T: std::fmt::LowerHex + std::fmt::Debug>(table: &[T]) -> String {
+pub(crate) fn first<T: std::fmt::LowerHex + std::fmt::Debug>(table: &[T]) -> String {
     format!("{:x?}", &table[..table.len().min(40)])
 }

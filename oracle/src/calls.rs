@@ -143,7 +143,7 @@ impl<'a> Opened<'a> {
 }
 
 /// Every sector but those of the tables in one chain, upward or downward or mixed.
-fn one_chain(random: &mut Random, version: u16, n: usize) -> Layout {
+pub fn one_chain(random: &mut Random, version: u16, n: usize) -> Layout {
     let mut layout = Layout::plain(version, n);
     let first = layout.fats.len() + layout.difats.len();
     let mut ids: Vec<u32> = (first as u32..n as u32).collect();
@@ -161,7 +161,7 @@ fn one_chain(random: &mut Random, version: u16, n: usize) -> Layout {
 
 /// Makes some ends of chains run into sectors of the tables; and, for a permissive opening, past the end, or takes the
 /// marks of such sectors away.
-fn make_odd(random: &mut Random, layout: &mut Layout, permissive: bool) {
+pub fn make_odd(random: &mut Random, layout: &mut Layout, permissive: bool) {
     let n = layout.n() as u32;
     let mut tables: Vec<u32> = layout.fats.iter().chain(&layout.difats).copied().collect();
     for i in 0..layout.n() {

@@ -176,3 +176,16 @@ pub fn last_free<F: Write + Seek>(allocator: &mut Allocator<F>, count: usize) ->
     }
     Ok(list)
 }
+
+/// Gives the free list another order: takes all of it, and gives it back so. FAT and bytes are then as before.
+pub fn order_free<F: Write + Seek>(allocator: &mut Allocator<F>, order: &[u32]) -> Result<()> {
+    let mut taken = Vec::with_capacity(order.len());
+    for _ in order {
+        taken.push(allocator.begin_chain(SectorInit::Keep)?);
+    }
+    let mut sorted = order.to_vec();
+    sorted.sort_unstable();
+    taken.sort_unstable();
+    assert_eq!(taken, sorted);
+    order.iter().try_for_each(|&id| allocator.free_chain(id))
+}

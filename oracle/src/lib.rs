@@ -6,10 +6,13 @@
 //! - `model`: the same functions, written from the specification alone.
 //! - `held`: one opening, asked of the library and of the model; `against` (`cfg(oracle)`): of the Rust too.
 //! - `called`: one call on a chain, asked of the library and of the model; `chained` (`cfg(oracle)`): of the Rust too.
+//! - `changed`: one call that changes a chain, asked of the library and of the model; `edited` (`cfg(oracle)`): a list of
+//!   them, asked of the Rust too, which keeps its own tables and bytes from one to the next.
 //! - `replay` (`cfg(oracle)`): the fixed list of answers for a program that has no Rust at hand.
 //! - `inputs`, `random`: headers and lists to compare on, the same at every run.
 //! - `layout`, `damage`, `openings`, `lengths`: images to open, whole and damaged, and how they are lent.
 //! - `calls`, `tamper`: calls on the chains of opened images; states and tables that no opening gave.
+//! - `edits`: images with room after them, and random changes of their chains.
 //! - `meant`: where the Rust's reader of headers may differ.
 
 #[cfg(oracle)]
@@ -27,6 +30,8 @@ pub mod asked;
 #[cfg(oracle)]
 pub mod chained;
 #[cfg(oracle)]
+pub mod edited;
+#[cfg(oracle)]
 pub mod image;
 #[cfg(oracle)]
 pub mod internal;
@@ -36,7 +41,9 @@ pub mod replay;
 pub mod abi;
 pub mod called;
 pub mod calls;
+pub mod changed;
 pub mod damage;
+pub mod edits;
 pub mod held;
 pub mod inputs;
 pub mod layout;

@@ -6,9 +6,11 @@
 use crate::abi::{self, Words};
 
 mod chains;
+mod changes;
 mod opening;
 
 pub use chains::{open_chain, read_chain};
+pub use changes::{free_chain, resize_chain, write_chain};
 pub use opening::open;
 
 const HEADER: usize = 512;

@@ -5,7 +5,7 @@ use std::fs;
 #[test]
 #[cfg_attr(
     not(oracle),
-    ignore = "no Rust of cfb 0.15.0: all comparisons with it, 71 tests, are left out; 51 others run"
+    ignore = "no Rust of cfb 0.15.0: all comparisons with it, 92 tests, are left out; 82 others run"
 )]
 fn what_is_left_out_without_the_rust() {
     let (mut left_out, mut others) = (0, 0);

@@ -8,7 +8,7 @@ use native.Mathlib.Omega.{arith}
 use borrow.Author.Tests.{lt-ltb, ltb-true, eqb-true, eq-eqb, not-true, not-false}
 use lib.Dec.{eqb, ltb}
 use lib.ListN.{length}
-use Rattle.lists.specs.Rows.{Row, row, testOf, ascend, Explained, Judged}
+use Rattle.lists.specs.Rows.{Row, row, testOf, ascend, byNumber, Explained, Judged}
 use Rattle.lists.proofs.Cases.{refuted, not-both}
 use Rattle.lists.proofs.Exactly.{_▸_, exactly, accepted, explained-by, explained-append, tested-append}
 use Rattle.agree.specs.Agree.{agreement}
@@ -64,9 +64,9 @@ module _ (s : State) (img : List ℕ) (t : Tables) (room start : ℕ) where
       (λ e. let a = same .0 (not-false _ f2) in ChainCause.breaks a (breaks-exactly (stateFat s t) start (known a .few) .0 (refused-as 21 (omega arith) e))) ▸ λ f4.
       (λ e. let a = same .0 (not-false _ f2) in ChainCause.returns a (returns-exactly (stateFat s t) start (known a .few) (known a .once) .0 (refused-as 22 (omega arith) e))) ▸ λ f5. tt
 
-  chain-judged : Judged (chainRows s img t room start) (ChainCause s img t room start)
+  chain-judged : Judged byNumber (chainRows s img t room start) (ChainCause s img t room start)
   unfolding ascend chainRows agreedRows walkRows
-  chain-judged = record { ascends = refl; tested = chain-tested; told = chain-told }
+  chain-judged = record { none = refl; ascends = refl; tested = chain-tested; told = chain-told }
 
   -- document 01: each number of opening a chain is given exactly when its cause holds and none before it does
   pub chain-exactly : (k : ℕ) → 1 ≤ k → (chainNo s img t room start ≡ k) ↔ (ChainCause s img t room start k × ((j : ℕ) → j < k → ChainCause s img t room start j → ⊥))
@@ -95,9 +95,9 @@ module _ (s : State) (img : List ℕ) (t : Tables) (room start : ℕ) where
         let first : Explained (ReadCause s img t room start offset) (chainRows s img t room start) = explained-by (ChainCause s img t room start) (ReadCause s img t room start offset) (λ k c. ReadCause.chain k c) (chainRows s img t room start) chain-told in
         explained-append (ReadCause s img t room start offset) (chainRows s img t room start) lastRow first last
 
-    read-judged : Judged (readRows s img t room start offset) (ReadCause s img t room start offset)
+    read-judged : Judged byNumber (readRows s img t room start offset) (ReadCause s img t room start offset)
     unfolding ascend readRows chainRows agreedRows walkRows
-    read-judged = record { ascends = refl; tested = read-tested; told = read-told }
+    read-judged = record { none = refl; ascends = refl; tested = read-tested; told = read-told }
 
     -- and so is each number of a read
     pub read-exactly : (k : ℕ) → 1 ≤ k → (readNo s img t room start offset ≡ k) ↔ (ReadCause s img t room start offset k × ((j : ℕ) → j < k → ReadCause s img t room start offset j → ⊥))

@@ -10,7 +10,7 @@ use lib.Dec.{eqb, leb}
 use lib.ListN.{length, getD, drop, length-drop}
 use lib.Seq.{getD-drop}
 use Rattle.lists.specs.Lists.{choose, both, sameList, Below}
-use Rattle.lists.specs.Rows.{testOf, ascend, Explained, Judged}
+use Rattle.lists.specs.Rows.{testOf, ascend, byNumber, Explained, Judged}
 use Rattle.lists.proofs.Exactly.{_▸_, exactly, accepted}
 use Rattle.lists.proofs.Cases.{below-or, same-or, true-or, not-both, both-true, both-left, both-right, either-cases, either-right, unlike}
 use Rattle.lists.proofs.Splice.{sameList-refl, sameList-false}
@@ -212,9 +212,9 @@ module _ (m : Validation) (b : List ℕ) where
       (λ t. Cause.list (broken-told (listOf b) t)) ▸ λ f9. tt
 
   -- the reader's table judges by the reader's causes
-  read-judged : Judged (readRows m b) (Cause m b)
+  read-judged : Judged byNumber (readRows m b) (Cause m b)
   unfolding ascend readRows
-  read-judged = record { ascends = refl; tested = read-tested; told = read-told }
+  read-judged = record { none = refl; ascends = refl; tested = read-tested; told = read-told }
 
   -- document 01: each number is given exactly when its cause holds and none before it does
   pub read-exactly : (k : ℕ) → 1 ≤ k → (readNo m b ≡ k) ↔ (Cause m b k × ((j : ℕ) → j < k → Cause m b j → ⊥))
@@ -244,9 +244,9 @@ module _ (h : Header) (n : ℕ) where
       (λ t. ⊎-elim (λ l. WriteCause.no-list (broken-told (h .list) l)) (λ e. WriteCause.free-start (eqb-true _ _ e)) (either-cases _ _ t)) ▸ λ f3. tt
 
   -- the writer's table judges by the writer's causes
-  write-judged : Judged (writeRows h n) (WriteCause h n)
+  write-judged : Judged byNumber (writeRows h n) (WriteCause h n)
   unfolding ascend writeRows
-  write-judged = record { ascends = refl; tested = write-tested; told = write-told }
+  write-judged = record { none = refl; ascends = refl; tested = write-tested; told = write-told }
 
   -- document 01: the writer's numbers, in the order 1, 7, 9
   pub write-exactly : (k : ℕ) → 1 ≤ k → (writeNo h n ≡ k) ↔ (WriteCause h n k × ((j : ℕ) → j < k → WriteCause h n j → ⊥))

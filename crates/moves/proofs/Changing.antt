@@ -20,9 +20,9 @@ use Rattle.chain.proofs.Zeroed.{zero-length}
 use Rattle.moves.specs.Hand.{Hand, Chain, extend}
 use Rattle.moves.specs.Fits.{FitsChain, FitsMore}
 use Rattle.moves.specs.Change.{shrink, withImage, idsOf, resizeMore, resized, writeMore, written, Apart, FitsShrink, FitsResize, FitsWrite}
-use Rattle.moves.proofs.Shrinking.{handOf, chainOf, shrink-fits, shrink-count, shrink-ids, shrink-free}
+use Rattle.moves.proofs.Shrinking.{shrink-fits, shrink-count, shrink-ids}
 use Rattle.moves.proofs.Staying.{extend-apart}
-use Rattle.moves.proofs.AssumedToo.{extend-fits, extend-count}
+use Rattle.moves.proofs.Extending.{chainOf, extend-fits, extend-count}
 
 -- numbers of a chain in hand are small
 module _ (S R : ℕ) (c : Chain) (f : FitsChain S R c) where

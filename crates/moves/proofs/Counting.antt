@@ -1,132 +1,141 @@
--- How many sectors a change needs: the laws of rounding up, and of the sectors that there are after more are added. Assumes nothing.
-use Prim.Native.Nat.{ℕ, zero, suc, _+_, _-_, _*_, _/_, _%_, _≤_, _<_}
-use mathlib.Core.Path.{_≡_, refl, _∙_, sym, ap}
-use mathlib.Core.Bool.{Bool, true, false}
-use mathlib.Core.Logic.{_⊎_, inl, inr, ⊎-elim, _≢_}
+-- The laws of counts that are rounded up: of the FAT's sectors and the DIFAT's (document 01, k and d). Assumes nothing.
+use Prim.Native.Nat.{ℕ, suc, _+_, _-_, _*_, _/_, _%_, _≤_, _<_}
+use mathlib.Core.Path.{_≡_, sym, _∙_, ap}
+use mathlib.Core.Bool.{true, false}
+use mathlib.Core.Logic.{_⊎_, ⊎-elim, _≢_}
 use native.Mathlib.Omega.{arith}
-use native.Mathlib.Nat.{add-zero, sub-zero, add-mul, one-mul, mul-comm, mul-le-mul-left, mul-le-mul-right, div-mul-le-self, mul-add-div-right, div-eq-of-lt, div-add-mod, mod-lt}
-use borrow.Author.Tests.{eq-eqb, ne-eqb, lt-leb}
+use native.Mathlib.Nat.{mul-comm, suc-mul, add-mul, one-mul, mul-le-mul-right, div-mul-le-self, lt-div-mul-add, div-add-mod, div-eq-of-lt-le, div-lt-iff-lt-mul}
+use borrow.Author.Tests.{le-leb, lt-leb, leb-true, eq-eqb, ne-eqb}
 use lib.Dec.{leb}
-use Rattle.lists.specs.Lists.{choose}
-use Rattle.lists.proofs.Cases.{true-or, same-or, below-or}
+use Rattle.lists.specs.Lists.{both}
+use Rattle.lists.proofs.Cases.{below-or, true-or, both-right, both-true, not-both}
 use Rattle.sectors.specs.Sectors.{perSector}
-use Rattle.fat.specs.Lists.{ceil}
-use Rattle.fat.proofs.Listing.{ceil-enough}
-use Rattle.moves.specs.Change.{writeMore}
-use Rattle.moves.specs.Disk.{needsDifat, afterFat, oneMore, countAfter}
+use Rattle.fat.specs.Lists.{ceil, fatCount, difatCount}
+use Rattle.fat.proofs.Listing.{ceil-enough, ceil-few}
+use Rattle.moves.specs.Disk.{needsDifat, afterFat, oneMore}
 
--- q whole parts of b, and less than one: rounded up
-ceil-parts : (q b r : ℕ) → 1 ≤ b → r < b → (q * b + r) / b ≡ q
-ceil-parts q b r h l = mul-add-div-right {m = b} h q r ∙ rw (div-eq-of-lt l, add-zero)
-
--- a quotient by m or more, m times
-pub quotient-times : (a b m : ℕ) → m ≤ b → a / b * m ≤ a
-quotient-times a b m h = omega (arith, mul-le-mul-left (a / b) h, div-mul-le-self a b)
-
--- rounding up a number of whole parts, and one that is none
-pub ceil-whole : (a b : ℕ) → 1 ≤ b → a % b ≡ 0 → a / b ≡ ceil a b
-unfolding ceil
-ceil-whole a b h e =
-    let whole : a + (b - 1) ≡ a / b * b + (b - 1) = omega (arith, div-add-mod a b, mul-comm b (a / b)) in
-    sym (rw whole (ceil-parts (a / b) b (b - 1) h (omega arith)))
-
-pub ceil-part : (a b : ℕ) → 1 ≤ b → a % b ≢ 0 → a / b + 1 ≡ ceil a b
-unfolding ceil
-ceil-part a b h d =
-    let some : 1 ≤ a % b = omega arith in
-    let whole : a + (b - 1) ≡ (a / b + 1) * b + (a % b - 1) = omega (arith, div-add-mod a b, mul-comm b (a / b), add-mul (a / b) 1 b, one-mul b) in
-    sym (rw whole (ceil-parts (a / b + 1) b (a % b - 1) h (omega (arith, mod-lt a h))))
-
--- what c whole parts hold asks for no more than c, and what is over is rounded up by itself
-pub ceil-within : (a b c : ℕ) → 1 ≤ b → a ≤ b * c → ceil a b ≤ c
-ceil-within a b c h l =
+-- of two quotients, one too small to be past the other
+above : (b x y a : ℕ) → x * b < a + b → a ≤ y * b → x ≤ y
+above b x y a l h =
     ⊎-elim
-    (λ (l : ceil a b < c + 1). omega arith)
-    (λ (g : c + 1 ≤ ceil a b). absurd (omega (arith, mul-le-mul-right b g, add-mul c 1 b, one-mul b, mul-comm b c, ceil-enough a b h .1)))
-    (below-or (ceil a b) (c + 1))
+    (λ (k : x < y + 1). omega arith)
+    (λ (g : y + 1 ≤ x). absurd (omega (arith, l, h, mul-le-mul-right b g, add-mul y 1 b, one-mul b)))
+    (below-or x (y + 1))
 
-pub ceil-over : (a b c : ℕ) → 1 ≤ b → ceil (b * c + a) b ≡ c + ceil a b
-unfolding ceil
-ceil-over a b c h =
-    let parts : b * c + a + (b - 1) ≡ c * b + (a + (b - 1)) = omega (arith, mul-comm b c) in
-    rw parts (mul-add-div-right {m = b} h c (a + (b - 1)))
+-- a quotient that is rounded up, by what is known of the number
+module _ (b : ℕ) (some : 1 ≤ b) where
+  ceil-is : (a q : ℕ) → a ≤ q * b → q * b < a + b → ceil a b ≡ q
+  ceil-is a q low high =
+      let e = ceil-enough a b some in
+      let x : ceil a b ≤ q = above b (ceil a b) q a (e .1) low in
+      let y : q ≤ ceil a b = above b q (ceil a b) a high (e .0) in
+      omega arith
 
--- a write that stays within the chain asks for none, and one that does not for what is over
-pub write-within : (S count offset bytes : ℕ) → 1 ≤ S → offset ≤ S * count → bytes ≤ S * count - offset → 0 ≡ writeMore S count offset bytes
-unfolding writeMore
-write-within S count offset bytes h o l = omega (arith, ceil-within (offset + bytes) S count h (omega arith))
+  pub ceil-suc : (a : ℕ) → ceil (suc a) b ≡ suc (a / b)
+  ceil-suc a =
+      ceil-is (suc a) (suc (a / b))
+      (omega (arith, suc-mul (a / b) b, lt-div-mul-add {a = a} {b = b} some))
+      (omega (arith, suc-mul (a / b) b, div-mul-le-self a b, some))
 
-pub write-over : (S count offset bytes : ℕ) → 1 ≤ S → offset ≤ S * count → S * count - offset < bytes
-    → ceil (bytes - (S * count - offset)) S ≡ writeMore S count offset bytes
-unfolding writeMore
-write-over S count offset bytes h o l =
-    let all : offset + bytes ≡ S * count + (bytes - (S * count - offset)) = omega arith in
-    sym (rw all (omega (arith, ceil-over (bytes - (S * count - offset)) S count h)))
+  least : (a : ℕ) → a / b ≤ ceil a b
+  least a = above b (a / b) (ceil a b) a (omega (arith, div-mul-le-self a b, some)) (ceil-enough a b some .0)
 
--- one sector more: one, two or three
-pub one-more-data : (S n : ℕ) → n % perSector S ≢ 0 → n + 1 ≡ oneMore S n
+  pub ceil-full : (a : ℕ) → ceil a b ≤ a / b → ceil a b ≡ a / b
+  ceil-full a h = omega (arith, h, least a)
+
+  pub ceil-part : (a : ℕ) → a / b < ceil a b → ceil a b ≡ suc (a / b)
+  ceil-part a h =
+      let x : ceil a b ≤ suc (a / b) = above b (ceil a b) (suc (a / b)) a (ceil-enough a b some .1) (omega (arith, suc-mul (a / b) b, lt-div-mul-add {a = a} {b = b} some)) in
+      omega arith
+
+  whole : (a : ℕ) → a / b * b + a % b ≡ a
+  whole a = ap (λ (m : ℕ). m + a % b) (mul-comm (a / b) b) ∙ div-add-mod a b
+
+  pub ceil-even : (a : ℕ) → a % b ≡ 0 → ceil a b ≡ a / b
+  ceil-even a e = ceil-is a (a / b) (omega (arith, whole a, e)) (omega (arith, whole a, e, some))
+
+  pub ceil-odd : (a : ℕ) → a % b ≢ 0 → a / b < ceil a b
+  ceil-odd a n =
+      ⊎-elim
+      (λ (l : a / b < ceil a b). l)
+      (λ (g : ceil a b ≤ a / b). absurd (n (omega (arith, mul-le-mul-right b g, ceil-enough a b some .0, whole a))))
+      (below-or (a / b) (ceil a b))
+
+  pub div-near : (a c : ℕ) → a % b ≡ 0 → c < b → (a + c) / b ≡ a / b
+  div-near a c e l = div-eq-of-lt-le {k = a / b} b {m = a + c} (omega (arith, whole a, e)) (omega (arith, whole a, e, l, add-mul (a / b) 1 b, one-mul b))
+
+-- the FAT's sectors: where one more is for data, and where an entry stands
+pub fat-suc : (S n : ℕ) → 1 ≤ perSector S → fatCount S (suc n) ≡ suc (n / perSector S)
+unfolding fatCount
+fat-suc S n some = ceil-suc (perSector S) some n
+
+pub fat-full : (S n : ℕ) → 1 ≤ perSector S → n % perSector S ≡ 0 → fatCount S n ≡ n / perSector S
+unfolding fatCount
+fat-full S n some e = ceil-even (perSector S) some n e
+
+pub fat-part : (S n : ℕ) → 1 ≤ perSector S → n % perSector S ≢ 0 → fatCount S n ≡ suc (n / perSector S)
+unfolding fatCount
+fat-part S n some e = ceil-part (perSector S) some n (ceil-odd (perSector S) some n e)
+
+pub fat-has : (S n i : ℕ) → 1 ≤ perSector S → i < n → i / perSector S < fatCount S n
+unfolding fatCount
+fat-has S n i some l = div-lt-iff-lt-mul {k = perSector S} {x = i} {y = ceil n (perSector S)} some .1 (omega (arith, l, ceil-enough n (perSector S) some .0))
+
+-- the DIFAT's sectors: none in use, and where a place needs one more or not
+pub difat-none : (S p : ℕ) → 2 ≤ perSector S → p ≤ 109 → difatCount S p ≡ 0
+unfolding difatCount
+difat-none S p two h =
+    let x : ceil (p - 109) (perSector S - 1) ≤ p - 109 = ceil-few (p - 109) (perSector S - 1) (omega (arith, two)) in
+    omega arith
+
+pub difat-suc : (S p : ℕ) → 2 ≤ perSector S → 109 ≤ p → difatCount S (suc p) ≡ suc ((p - 109) / (perSector S - 1))
+unfolding difatCount
+difat-suc S p two h =
+    let e : suc p - 109 ≡ suc (p - 109) = omega arith in
+    ap (λ (a : ℕ). ceil a (perSector S - 1)) e ∙ ceil-suc (perSector S - 1) (omega (arith, two)) (p - 109)
+
+pub needs-full : (S p : ℕ) → 2 ≤ perSector S → needsDifat S p ≡ true → difatCount S p ≡ (p - 109) / (perSector S - 1)
+unfolding needsDifat difatCount
+needs-full S p two t =
+    ceil-full (perSector S - 1) (omega (arith, two)) (p - 109) (leb-true _ _ (both-right (leb 109 p) _ t))
+
+pub needs-not : (S p : ℕ) → 2 ≤ perSector S → 109 ≤ p → needsDifat S p ≡ false → difatCount S p ≡ suc ((p - 109) / (perSector S - 1))
+unfolding needsDifat difatCount
+needs-not S p two h f =
+    ⊎-elim
+    (λ (l : (p - 109) / (perSector S - 1) < ceil (p - 109) (perSector S - 1)). ceil-part (perSector S - 1) (omega (arith, two)) (p - 109) l)
+    (λ (g : ceil (p - 109) (perSector S - 1) ≤ (p - 109) / (perSector S - 1)). absurd (not-both (both-true (le-leb _ _ h) (le-leb _ _ g)) f))
+    (below-or ((p - 109) / (perSector S - 1)) (ceil (p - 109) (perSector S - 1)))
+
+pub needs-near : (S p : ℕ) → p < 109 → needsDifat S p ≡ false
+unfolding needsDifat
+needs-near S p l = ap (λ t. both t (leb (difatCount S p) ((p - 109) / (perSector S - 1)))) (lt-leb 109 p l)
+
+-- what a test of the code gives
+pub needs-told : (S p c : ℕ) → 109 ≤ p → c ≡ ceil (p - 109) (perSector S - 1) → leb c ((p - 109) / (perSector S - 1)) ≡ needsDifat S p
+unfolding needsDifat difatCount
+needs-told S p c h e = sym (rw (le-leb 109 p h, e))
+
+-- how many sectors there are after one more, where the FAT is full and where not
+pub after-needs : (S n : ℕ) → needsDifat S (n / perSector S) ≡ true → afterFat S n ≡ n + 2
+unfolding afterFat
+after-needs S n t = rw t
+
+pub after-not : (S n : ℕ) → needsDifat S (n / perSector S) ≡ false → afterFat S n ≡ n + 1
+unfolding afterFat
+after-not S n t = rw t
+
+pub after-few : (S n : ℕ) → (n < afterFat S n) × (afterFat S n ≤ n + 2)
+after-few S n =
+    ⊎-elim
+    (λ (t : needsDifat S (n / perSector S) ≡ true). rw (after-needs S n t) (omega arith, omega arith))
+    (λ (f : needsDifat S (n / perSector S) ≡ false). rw (after-not S n f) (omega arith, omega arith))
+    (true-or (needsDifat S (n / perSector S)))
+
+pub one-full : (S n : ℕ) → n % perSector S ≡ 0 → oneMore S n ≡ suc (afterFat S n)
 unfolding oneMore
-one-more-data S n d = omega (arith, ap (λ (b : Bool). choose b (suc (afterFat S n)) (suc n)) (ne-eqb (n % perSector S) 0 d))
+one-full S n e = rw (eq-eqb _ _ e)
 
-pub one-more-fat : (S n : ℕ) → n % perSector S ≡ 0 → needsDifat S (n / perSector S) ≡ false → n + 2 ≡ oneMore S n
-unfolding oneMore afterFat
-one-more-fat S n e f =
-    omega (arith, ap (λ (b : Bool). choose b (suc (afterFat S n)) (suc n)) (eq-eqb (n % perSector S) 0 e), ap (λ (b : Bool). choose b (n + 2) (n + 1)) f)
-
-pub one-more-difat : (S n : ℕ) → n % perSector S ≡ 0 → needsDifat S (n / perSector S) ≡ true → n + 3 ≡ oneMore S n
-unfolding oneMore afterFat
-one-more-difat S n e t =
-    omega (arith, ap (λ (b : Bool). choose b (suc (afterFat S n)) (suc n)) (eq-eqb (n % perSector S) 0 e), ap (λ (b : Bool). choose b (n + 2) (n + 1)) t)
-
-pub one-more-between : (S n : ℕ) → (n + 1 ≤ oneMore S n) × (oneMore S n ≤ n + 3)
-one-more-between S n = at (same-or (n % perSector S) 0) (true-or (needsDifat S (n / perSector S)))
-  where
-    at : (n % perSector S ≡ 0) ⊎ (n % perSector S ≢ 0) → (needsDifat S (n / perSector S) ≡ true) ⊎ (needsDifat S (n / perSector S) ≡ false)
-        → (n + 1 ≤ oneMore S n) × (oneMore S n ≤ n + 3)
-    at (inr d) e = (omega (arith, one-more-data S n d), omega (arith, one-more-data S n d))
-    at (inl z) (inl t) = (omega (arith, one-more-difat S n z t), omega (arith, one-more-difat S n z t))
-    at (inl z) (inr f) = (omega (arith, one-more-fat S n z f), omega (arith, one-more-fat S n z f))
-
--- c more are at least c
-pub count-least : (S n c : ℕ) → n + c ≤ countAfter S n c
-unfolding countAfter
-count-least S n zero = omega arith
-count-least S n (suc c) = omega (arith, one-more-between S n .0, count-least S (oneMore S n) c)
-
-pub count-none : (S n : ℕ) → countAfter S n 0 ≡ n
-unfolding countAfter
-count-none S n = refl
-
-pub count-one : (S n c : ℕ) → countAfter S n (suc c) ≡ countAfter S (oneMore S n) c
-unfolding countAfter
-count-one S n c = refl
-
--- where the loop of `has_room` stands: i of the sectors are counted, and what is left from here is the whole
-pub record Counts (S n more room count i : ℕ) : Type 0 where
-  pub far : i ≤ more
-  pub few : more ≤ room - n
-  pub bounded : count ≤ n + 3 * i
-  pub left : countAfter S n more ≡ countAfter S count (more - i)
-
-pub counts-begun : (S n more room : ℕ) → more ≤ room - n → Counts S n more room n 0
-counts-begun S n more room h = record { far = omega arith; few = h; bounded = omega arith; left = ap (countAfter S n) (sym (sub-zero more)) }
-
-pub counts-on : (S n more room count i next : ℕ) → Counts S n more room count i → i < more → next ≡ oneMore S count → Counts S n more room next (i + 1)
-counts-on S n more room count i next g l e =
-    record {
-      far = omega arith;
-      few = g .few;
-      bounded = omega (arith, one-more-between S count .1, g .bounded);
-      left =
-          let step : more - i ≡ suc (more - (i + 1)) = omega arith in
-          g .left ∙ ap (countAfter S count) step ∙ count-one S count (more - (i + 1)) ∙ ap (λ (m : ℕ). countAfter S m (more - (i + 1))) (sym e);
-    }
-
-pub counts-over : (S n more room count i : ℕ) → Counts S n more room count i → more ≤ i → countAfter S n more ≡ count
-counts-over S n more room count i g h =
-    let none : more - i ≡ 0 = omega arith in
-    g .left ∙ ap (countAfter S count) none ∙ count-none S count
-
--- more than there is room for
-pub counts-past : (S n more room : ℕ) → n ≤ room → room - n < more → false ≡ leb (countAfter S n more) room
-counts-past S n more room h l = sym (lt-leb (countAfter S n more) room (omega (arith, count-least S n more)))
+pub one-part : (S n : ℕ) → n % perSector S ≢ 0 → oneMore S n ≡ suc n
+unfolding oneMore
+one-part S n e = rw (ne-eqb _ _ e)

@@ -1,37 +1,32 @@
 -- The laws of sectors freed, one and a run of them. Assumes nothing.
-use Prim.Native.Nat.{ℕ, zero, suc, _+_, _-_, _/_, _≤_, _<_}
+use Prim.Native.Nat.{ℕ, zero, suc, _+_, _-_, _≤_, _<_}
 use mathlib.Core.Path.{_≡_, refl, _∙_, sym, ap}
 use mathlib.Core.List.{List}
-use mathlib.Core.Logic.{_⊎_, inl, inr, ⊎-elim, _≢_}
+use mathlib.Core.Logic.{⊎-elim, _≢_}
 use native.Mathlib.Omega.{arith}
 use lib.ListN.{length, getD, set, length-set}
 use lib.Seq.{getD-set-same, getD-set-other}
 use Rattle.lists.proofs.Cases.{same-or}
 use Rattle.consts.specs.Consts.{freeSector}
-use Rattle.moves.specs.Disk.{Disk, setFat}
-use Rattle.moves.specs.Hand.{Hand, point, Points, freeSectorOf, freeRun}
-use Rattle.moves.specs.Fits.{FitsHand, FitsFrees}
-use Rattle.moves.proofs.Pointing.{points-hand, point-fits, point-image, point-tables}
-
--- what is in hand, by its parts
-abbrev handOf : ℕ → List ℕ → List ℕ → List ℕ → List ℕ → List ℕ → ℕ → List ℕ → Hand
-handOf n image fat fats difats frees free marks =
-    record { disk = record { image = image; fat = fat; fats = fats; difats = difats; sectors = n }; frees = frees; free = free; marks = marks }
+use Rattle.moves.specs.Disk.{setFat}
+use Rattle.moves.specs.Hand.{Hand, Chain, point, Points, freeSectorOf, freeRun}
+use Rattle.moves.specs.Fits.{FitsHand, FitsFrees, FitsChain}
+use Rattle.moves.proofs.Pointing.{handOf, HandLong, long-none, long-then, points-hand, point-fits, point-long}
 
 -- freeing leaves what the code asks for
-pub free-fits : (S R : ℕ) (h : Hand) (i : ℕ) → i < h .disk .sectors → h .free < h .disk .sectors → FitsHand S R h → FitsHand S R (freeSectorOf S h i)
+pub free-fits : (S R : ℕ) (h : Hand) (i : ℕ) → FitsHand S R h → i < h .disk .sectors → h .free < h .disk .sectors → FitsHand S R (freeSectorOf S h i)
 unfolding freeSectorOf point setFat
-free-fits S R h i b room f =
-    let p : FitsHand S R (point S h i freeSector) = point-fits S R h i freeSector b f in
+free-fits S R h i f b room =
+    let p : FitsHand S R (point S h i freeSector) = point-fits S R h i freeSector f b in
     record {
       disk = p .disk;
       frees-long = rw length-set (f .frees-long);
       marks-long = p .marks-long;
       free-few = omega (arith, room);
       frees-below = λ q l. ⊎-elim
-      (λ (e : q ≡ h .free). rw (e, getD-set-same (h .frees) (h .free) i 0 (omega (arith, room, f .disk .inside, f .frees-long))) b)
-      (λ (e : q ≢ h .free). rw (getD-set-other (h .frees) (h .free) q i 0 e) (f .frees-below q (omega (arith, l, e))))
-      (same-or q (h .free));
+          (λ (e : q ≡ h .free). rw (e, getD-set-same (h .frees) (h .free) i 0 (omega (arith, room, f .disk .inside, f .frees-long))) b)
+          (λ (e : q ≢ h .free). rw (getD-set-other (h .frees) (h .free) q i 0 e) (f .frees-below q (omega (arith, l, e))))
+          (same-or q (h .free));
     }
 
 -- the first of a run freed: the others can be
@@ -39,7 +34,7 @@ pub frees-more : (S R i c : ℕ) (ids : List ℕ) (h : Hand) → FitsFrees S R i
 unfolding freeSectorOf point setFat
 frees-more S R i c ids h f =
     record {
-      fits = free-fits S R h (getD ids i 0) (f .within i (omega arith)) (omega (arith, f .room)) (f .fits);
+      fits = free-fits S R h (getD ids i 0) (f .fits) (f .within i (omega arith)) (omega (arith, f .room));
       listed = omega (arith, f .listed);
       within = λ j l. f .within j (omega (arith, l));
       room = omega (arith, f .room);
@@ -59,7 +54,7 @@ pub free-run-fits : (S R i c : ℕ) (ids : List ℕ) (h : Hand) → FitsFrees S 
 free-run-fits S R i zero ids h f = rw free-none (f .fits)
 free-run-fits S R i (suc c) ids h f = rw free-more (free-run-fits S R (suc i) c ids (freeSectorOf S h (getD ids i 0)) (frees-more S R i c ids h f))
 
--- one freed: how many are, and the sectors, stand as they should
+-- one freed: how many are FREE then, and how many sectors there are
 pub free-one-count : (S : ℕ) (h : Hand) (i : ℕ) → freeSectorOf S h i .free ≡ suc (h .free)
 unfolding freeSectorOf
 free-one-count S h i = refl
@@ -80,33 +75,38 @@ free-run-sectors S h ids i (suc c) =
     rw free-more (free-run-sectors S (freeSectorOf S h (getD ids i 0)) ids (suc i) c ∙ free-one-sectors S h (getD ids i 0))
 
 -- everything that is lent stays as long
-pub free-one-image : (S R : ℕ) (h : Hand) (i : ℕ) → i < h .disk .sectors → FitsHand S R h → length (freeSectorOf S h i .disk .image) ≡ length (h .disk .image)
+pub free-long : (S R : ℕ) (h : Hand) (i : ℕ) → FitsHand S R h → i < h .disk .sectors → HandLong h (freeSectorOf S h i)
 unfolding freeSectorOf
-free-one-image S R h i b f = point-image S R h i freeSector b f
+free-long S R h i f b =
+    let p = point-long S R h i freeSector f b in
+    record { disk = p .disk; frees-same = length-set (h .frees) (h .free) i; marks-same = p .marks-same }
 
-pub free-one-tables : (S : ℕ) (h : Hand) (i : ℕ)
-    → (length (freeSectorOf S h i .disk .fat) ≡ length (h .disk .fat)) × (freeSectorOf S h i .disk .fats ≡ h .disk .fats) × (freeSectorOf S h i .disk .difats ≡ h .disk .difats)
-    × (length (freeSectorOf S h i .frees) ≡ length (h .frees)) × (length (freeSectorOf S h i .marks) ≡ length (h .marks))
-unfolding freeSectorOf
-free-one-tables S h i =
-    let p = point-tables S h i freeSector in
-    (p .0, p .1, p .2, length-set (h .frees) (h .free) i, p .4)
-
-pub free-run-image : (S R i c : ℕ) (ids : List ℕ) (h : Hand) → FitsFrees S R i c ids h → length (freeRun S h ids i c .disk .image) ≡ length (h .disk .image)
-free-run-image S R i zero ids h f = rw free-none
-free-run-image S R i (suc c) ids h f =
+pub free-run-long : (S R i c : ℕ) (ids : List ℕ) (h : Hand) → FitsFrees S R i c ids h → HandLong h (freeRun S h ids i c)
+free-run-long S R i zero ids h f = rw free-none (long-none h)
+free-run-long S R i (suc c) ids h f =
     rw free-more
-    (free-run-image S R (suc i) c ids (freeSectorOf S h (getD ids i 0)) (frees-more S R i c ids h f)
-    ∙ free-one-image S R h (getD ids i 0) (f .within i (omega arith)) (f .fits))
+    (long-then (free-long S R h (getD ids i 0) (f .fits) (f .within i (omega arith)))
+    (free-run-long S R (suc i) c ids (freeSectorOf S h (getD ids i 0)) (frees-more S R i c ids h f)))
 
-pub free-run-tables : (S : ℕ) (h : Hand) (ids : List ℕ) (i c : ℕ)
-    → (length (freeRun S h ids i c .disk .fat) ≡ length (h .disk .fat)) × (freeRun S h ids i c .disk .fats ≡ h .disk .fats) × (freeRun S h ids i c .disk .difats ≡ h .disk .difats)
-    × (length (freeRun S h ids i c .frees) ≡ length (h .frees)) × (length (freeRun S h ids i c .marks) ≡ length (h .marks))
-free-run-tables S h ids i zero = rw free-none (refl, refl, refl, refl, refl)
-free-run-tables S h ids i (suc c) =
-    let p = free-run-tables S (freeSectorOf S h (getD ids i 0)) ids (suc i) c in
-    let q = free-one-tables S h (getD ids i 0) in
-    rw free-more (p .0 ∙ q .0, p .1 ∙ q .1, p .2 ∙ q .2, p .3 ∙ q .3, p .4 ∙ q .4)
+-- sectors of a chain in hand can be freed, and what is left of the chain is one in hand then
+pub chain-frees : (S R i m : ℕ) (c : Chain) → FitsChain S R c → i + m ≤ c .count → FitsFrees S R i m (c .ids) (c .hand)
+chain-frees S R i m c f b =
+    record {
+      fits = f .fits;
+      listed = omega (arith, b, f .few, f .fits .disk .inside, f .ids-long);
+      within = λ j l. f .within j (omega (arith, l, b));
+      room = omega (arith, b, f .few);
+    }
+
+pub chain-freed : (S R i m : ℕ) (c : Chain) → FitsChain S R c → i + m ≤ c .count
+    → FitsChain S R (record { hand = freeRun S (c .hand) (c .ids) i m; ids = c .ids; count = i })
+chain-freed S R i m c f b =
+    record {
+      fits = free-run-fits S R i m (c .ids) (c .hand) (chain-frees S R i m c f b);
+      ids-long = f .ids-long;
+      within = λ j l. rw free-run-sectors (f .within j (omega (arith, l, b)));
+      few = rw (free-run-sectors, free-run-count) (omega (arith, b, f .few));
+    }
 
 -- the parts that freeing one touches
 freed-hand : (S n : ℕ) (image fat fats difats frees marks : List ℕ) (free i : ℕ) (image' fat' marks' : List ℕ) → Points S n image fat fats marks i freeSector image' fat' marks'
@@ -167,19 +167,19 @@ module _ {S R n free : ℕ} {image₀ fat₀ fats frees₀ marks₀ ids : List �
       let a : from + (j + 1) ≡ suc (from + j) = omega arith in
       let b : free + (j + 1) ≡ suc (free + j) = omega arith in
       let one : (difats : List ℕ)
-          → handOf n image' fat' fats difats (set frees (free + j) (getD ids (from + j) 0)) (suc (free + j)) marks'
-          ≡ freeSectorOf S (handOf n image fat fats difats frees (free + j) marks) (getD ids (from + j) 0)
-          = λ difats. freed-hand S n image fat fats difats frees marks (free + j) (getD ids (from + j) 0) image' fat' marks' p in
+      → handOf n image' fat' fats difats (set frees (free + j) (getD ids (from + j) 0)) (suc (free + j)) marks'
+      ≡ freeSectorOf S (handOf n image fat fats difats frees (free + j) marks) (getD ids (from + j) 0)
+      = λ difats. freed-hand S n image fat fats difats frees marks (free + j) (getD ids (from + j) 0) image' fat' marks' p in
       record {
         spare = g .spare;
         fits = rw (a, b, one (g .spare)) (frees-more S R (from + j) (count - (j + 1)) ids (handOf n image fat fats (g .spare) frees (free + j) marks) (rw m at (g .fits)));
         turns = omega (arith, h);
         whole = λ difats.
-        rw (a, b)
-        (g .whole difats
-        ∙ ap (λ (k : ℕ). freeRun S (handOf n image fat fats difats frees (free + j) marks) ids (from + j) k) m
-        ∙ free-more S (handOf n image fat fats difats frees (free + j) marks) ids (from + j) (count - (j + 1))
-        ∙ ap (λ (k : Hand). freeRun S k ids (suc (from + j)) (count - (j + 1))) (sym (one difats)));
+            rw (a, b)
+            (g .whole difats
+            ∙ ap (λ (k : ℕ). freeRun S (handOf n image fat fats difats frees (free + j) marks) ids (from + j) k) m
+            ∙ free-more S (handOf n image fat fats difats frees (free + j) marks) ids (from + j) (count - (j + 1))
+            ∙ ap (λ (k : Hand). freeRun S k ids (suc (from + j)) (count - (j + 1))) (sym (one difats)));
         image-long = li ∙ g .image-long;
         fat-long = lf ∙ g .fat-long;
         frees-long = length-set frees (free + j) (getD ids (from + j) 0) ∙ g .frees-long;

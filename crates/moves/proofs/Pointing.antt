@@ -1,6 +1,6 @@
 -- The laws of marks, and of an entry made to point at a sector. Assumes nothing.
 use Prim.Native.Nat.{ℕ, _+_, _*_, _/_, _≤_, _<_}
-use mathlib.Core.Path.{_≡_, refl, _∙_, sym, ap}
+use mathlib.Core.Path.{_≡_, refl, _∙_, ap}
 use mathlib.Core.Bool.{Bool, true, false}
 use mathlib.Core.List.{List}
 use native.Mathlib.Omega.{arith}
@@ -10,11 +10,12 @@ use lib.ListN.{length, getD, set, length-set}
 use Rattle.lists.specs.Lists.{choose, splice}
 use Rattle.words.specs.Words.{digits}
 use Rattle.sectors.specs.Sectors.{startOf, perSector}
-use Rattle.fat.specs.Lists.{fatCount, difatCount}
+use Rattle.fat.specs.Lists.{fatCount}
 use Rattle.moves.specs.Disk.{Disk, setFat, entryPlace}
 use Rattle.moves.specs.Hand.{Hand, marked, point, Points}
-use Rattle.moves.specs.Fits.{Fits, FitsWhole, FitsHand}
-use Rattle.moves.proofs.Assumed.{set-fits, set-long, entry-sector, fats-inside}
+use Rattle.moves.specs.Fits.{FitsWhole, FitsHand}
+use Rattle.moves.proofs.Fitting.{set-fits, set-long, entry-sector, fats-inside}
+use Rattle.moves.proofs.Keeping.{SameLong}
 
 -- a mark that is set, and one that is no sector's
 pub marked-below : (n : ℕ) (marks : List ℕ) (t v : ℕ) → t < n → set marks t v ≡ marked n marks t v
@@ -40,17 +41,21 @@ pub points-of : (S n : ℕ) (image fat fats marks : List ℕ) (i v : ℕ) (image
 points-of S n image fat fats marks i v image' fat' lost marks' l m s e =
     record { stored = s; entry = e; moved = m ∙ ap (λ (x : List ℕ). marked n x v 1) l }
 
+-- what is in hand, by its parts
+abbrev pub handOf : ℕ → List ℕ → List ℕ → List ℕ → List ℕ → List ℕ → ℕ → List ℕ → Hand
+handOf n image fat fats difats frees free marks =
+    record { disk = record { image = image; fat = fat; fats = fats; difats = difats; sectors = n }; frees = frees; free = free; marks = marks }
+
 -- what is in hand, after the parts were touched
 pub points-hand : (S n : ℕ) (image fat fats difats frees marks : List ℕ) (free i v : ℕ) (image' fat' marks' : List ℕ) → Points S n image fat fats marks i v image' fat' marks'
-    → record { disk = record { image = image'; fat = fat'; fats = fats; difats = difats; sectors = n }; frees = frees; free = free; marks = marks' }
-    ≡ point S (record { disk = record { image = image; fat = fat; fats = fats; difats = difats; sectors = n }; frees = frees; free = free; marks = marks }) i v
+    → handOf n image' fat' fats difats frees free marks' ≡ point S (handOf n image fat fats difats frees free marks) i v
 unfolding point setFat
 points-hand S n image fat fats difats frees marks free i v image' fat' marks' p = rw (p .stored, p .entry, p .moved)
 
 -- an entry of a sector in hand can be set
-pub entry-inside : (S R : ℕ) (d : Disk) (i : ℕ) → FitsWhole S R d → i < d .sectors
+pub entry-in-hand : (S R : ℕ) (d : Disk) (i : ℕ) → FitsWhole S R d → i < d .sectors
     → (i < length (d .fat)) × (i / perSector S < length (d .fats)) × (startOf S (getD (d .fats) (i / perSector S) 0) + S ≤ length (d .image))
-entry-inside S R d i f h =
+entry-in-hand S R d i f h =
     let e : i / perSector S < fatCount S (d .sectors) = entry-sector S R d i f h in
     (omega (arith, f .inside, f .fat-long), omega (arith, e, f .fats-many, f .fats-long), fats-inside S R _ _ d (i / perSector S) f e)
 
@@ -59,13 +64,13 @@ pub point-inside : (S R : ℕ) (h : Hand) (i : ℕ) → FitsHand S R h → i < h
     → ((S ≡ 4 * perSector S) × (1 ≤ perSector S) × (h .disk .sectors ≤ length (h .marks)))
     × (((i < length (h .disk .fat)) × (i / perSector S < length (h .disk .fats))) × (startOf S (getD (h .disk .fats) (i / perSector S) 0) + S ≤ length (h .disk .image)))
 point-inside S R h i f b =
-    let e = entry-inside S R (h .disk) i (f .disk) b in
+    let e = entry-in-hand S R (h .disk) i (f .disk) b in
     ((f .disk .holds .entries, omega (arith, f .disk .holds .two), omega (arith, f .disk .inside, f .marks-long)), ((e .0, e .1), e .2))
 
 -- pointing leaves what the code asks for
-pub point-fits : (S R : ℕ) (h : Hand) (i v : ℕ) → i < h .disk .sectors → FitsHand S R h → FitsHand S R (point S h i v)
+pub point-fits : (S R : ℕ) (h : Hand) (i v : ℕ) → FitsHand S R h → i < h .disk .sectors → FitsHand S R (point S h i v)
 unfolding point setFat
-point-fits S R h i v b f =
+point-fits S R h i v f b =
     record {
       disk = set-fits S R _ _ (h .disk) i v (entry-sector S R (h .disk) i (f .disk) b) (f .disk);
       frees-long = f .frees-long;
@@ -75,18 +80,40 @@ point-fits S R h i v b f =
     }
 
 -- and everything that is lent stays as long
-pub point-image : (S R : ℕ) (h : Hand) (i v : ℕ) → i < h .disk .sectors → FitsHand S R h → length (point S h i v .disk .image) ≡ length (h .disk .image)
+pub record HandLong (h k : Hand) : Type 0 where
+  pub disk : SameLong (h .disk) (k .disk)
+  pub frees-same : length (k .frees) ≡ length (h .frees)
+  pub marks-same : length (k .marks) ≡ length (h .marks)
+
+pub long-none : (h : Hand) → HandLong h h
+long-none h =
+    record { disk = record { image-same = refl; fat-same = refl; fats-same = refl; difats-same = refl }; frees-same = refl; marks-same = refl }
+
+pub long-then : {h k l : Hand} → HandLong h k → HandLong k l → HandLong h l
+long-then p q =
+    record {
+      disk = record {
+        image-same = q .disk .image-same ∙ p .disk .image-same;
+        fat-same = q .disk .fat-same ∙ p .disk .fat-same;
+        fats-same = q .disk .fats-same ∙ p .disk .fats-same;
+        difats-same = q .disk .difats-same ∙ p .disk .difats-same;
+      };
+      frees-same = q .frees-same ∙ p .frees-same;
+      marks-same = q .marks-same ∙ p .marks-same;
+    }
+
+pub point-long : (S R : ℕ) (h : Hand) (i v : ℕ) → FitsHand S R h → i < h .disk .sectors → HandLong h (point S h i v)
 unfolding point
-point-image S R h i v b f = set-long S R _ _ (h .disk) i v (entry-sector S R (h .disk) i (f .disk) b) (f .disk)
+point-long S R h i v f b =
+    record {
+      disk = set-long S R _ _ (h .disk) i v (entry-sector S R (h .disk) i (f .disk) b) (f .disk);
+      frees-same = refl;
+      marks-same =
+          length-marked (h .disk .sectors) (marked (h .disk .sectors) (h .marks) (getD (h .disk .fat) i 0) 0) v 1
+          ∙ length-marked (h .disk .sectors) (h .marks) (getD (h .disk .fat) i 0) 0;
+    }
 
-pub point-tables : (S : ℕ) (h : Hand) (i v : ℕ)
-    → (length (point S h i v .disk .fat) ≡ length (h .disk .fat)) × (point S h i v .disk .fats ≡ h .disk .fats) × (point S h i v .disk .difats ≡ h .disk .difats)
-    × (point S h i v .frees ≡ h .frees) × (length (point S h i v .marks) ≡ length (h .marks))
-unfolding point setFat
-point-tables S h i v =
-    (length-set (h .disk .fat) i v, refl, refl, refl,
-    length-marked (h .disk .sectors) (marked (h .disk .sectors) (h .marks) (getD (h .disk .fat) i 0) 0) v 1 ∙ length-marked (h .disk .sectors) (h .marks) (getD (h .disk .fat) i 0) 0)
-
+-- how many sectors there are, and how many of them are FREE, stays
 pub point-counts : (S : ℕ) (h : Hand) (i v : ℕ) → (point S h i v .disk .sectors ≡ h .disk .sectors) × (point S h i v .free ≡ h .free)
 unfolding point setFat
 point-counts S h i v = (refl, refl)

@@ -1,31 +1,22 @@
 -- The laws of a chain cut and its tail freed. Assumes nothing.
-use Prim.Native.Nat.{ℕ, suc, _+_, _-_, _*_, _/_, _≤_, _<_}
+use Prim.Native.Nat.{ℕ, _+_, _-_, _≤_, _<_}
 use mathlib.Core.Path.{_≡_, refl, _∙_, sym, ap}
 use mathlib.Core.List.{List}
-use mathlib.Core.Logic.{_⊎_, ⊎-elim, _≢_}
+use mathlib.Core.Logic.{⊎-elim, _≢_}
 use native.Mathlib.Omega.{arith}
 use borrow.Author.Tests.{lt-ltb, le-ltb}
-use lib.ListN.{length, getD, take, replicate, length-append, length-take, length-replicate, List·getD-append}
+use lib.ListN.{length, getD, take, replicate, length-append, length-replicate, List·getD-append}
 use lib.Seq.{getD-take, length-take-le, take-at}
-use Rattle.lists.specs.Lists.{choose}
-use Rattle.lists.proofs.Cases.{same-or, below-or}
+use Rattle.lists.proofs.Cases.{below-or}
 use Rattle.consts.specs.Consts.{endOfChain}
-use Rattle.sectors.specs.Sectors.{startOf, perSector}
 use Rattle.alloc.specs.Opened.{padded}
-use Rattle.moves.specs.Hand.{Hand, Chain, Points, linked, freeRun}
-use Rattle.moves.specs.Fits.{FitsHand, FitsFrees, FitsChain}
-use Rattle.moves.specs.Change.{cut, shrink, idsOf, FitsCut, FitsShrink}
-use Rattle.moves.proofs.Pointing.{points-hand, point-inside}
-use Rattle.moves.proofs.Freeing.{free-run-count, free-run-sectors}
-use Rattle.moves.proofs.AssumedToo.{ChainLong, long-none, long-then, linked-none, linked-last, linked-fits, linked-counts, linked-long, free-run-long, chain-frees, chain-freed}
-
--- what is in hand, by its parts, and a chain
-abbrev pub handOf : ℕ → List ℕ → List ℕ → List ℕ → List ℕ → List ℕ → ℕ → List ℕ → Hand
-handOf n image fat fats difats frees free marks =
-    record { disk = record { image = image; fat = fat; fats = fats; difats = difats; sectors = n }; frees = frees; free = free; marks = marks }
-
-abbrev pub chainOf : ℕ → List ℕ → List ℕ → List ℕ → List ℕ → List ℕ → ℕ → List ℕ → List ℕ → ℕ → Chain
-chainOf n image fat fats difats frees free marks ids count = record { hand = handOf n image fat fats difats frees free marks; ids = ids; count = count }
+use Rattle.moves.specs.Hand.{Hand, Chain, Points, freeRun}
+use Rattle.moves.specs.Fits.{FitsHand, FitsFrees, FitsLast, FitsChain}
+use Rattle.moves.specs.Change.{cut, shrink, idsOf, FitsShrink}
+use Rattle.moves.proofs.Pointing.{handOf, long-none, long-then}
+use Rattle.moves.proofs.Freeing.{free-run-count, free-run-sectors, free-run-long, chain-frees, chain-freed}
+use Rattle.moves.proofs.Linking.{ChainLong, linked-none, linked-points, last-fits, linked-fits, linked-counts, linked-long}
+use Rattle.moves.proofs.Extending.{chainOf}
 
 -- a list that is zero from place m on: it is as long, and what stands before m stays
 pub padded-long : (xs : List ℕ) (m : ℕ) → m ≤ length xs → length (padded (take m xs) (length xs)) ≡ length xs
@@ -54,16 +45,7 @@ pub cut-last : (S n : ℕ) (image fat fats marks ids : List ℕ) (m : ℕ) (imag
     → Points S n image fat fats marks (getD ids (m - 1) 0) endOfChain image' fat' marks' → (difats frees : List ℕ) (free : ℕ)
     → handOf n image' fat' fats difats frees free marks' ≡ cut S (handOf n image fat fats difats frees free marks) ids m
 unfolding cut
-cut-last S n image fat fats marks ids m image' fat' marks' e p difats frees free =
-    points-hand S n image fat fats difats frees marks free (getD ids (m - 1) 0) endOfChain image' fat' marks' p
-    ∙ sym (linked-last S (handOf n image fat fats difats frees free marks) ids m endOfChain e)
-
--- its entry can be set
-pub cut-inside : (S R m : ℕ) (ids : List ℕ) (h : Hand) → FitsCut S R m ids h → m ≢ 0
-    → ((S ≡ 4 * perSector S) × (1 ≤ perSector S) × (h .disk .sectors ≤ length (h .marks)))
-    × (((getD ids (m - 1) 0 < length (h .disk .fat)) × (getD ids (m - 1) 0 / perSector S < length (h .disk .fats)))
-    × (startOf S (getD (h .disk .fats) (getD ids (m - 1) 0 / perSector S) 0) + S ≤ length (h .disk .image)))
-cut-inside S R m ids h f e = point-inside S R h (getD ids (m - 1) 0) (f .fits) (f .last (omega (arith, e)))
+cut-last S n image fat fats marks ids m image' fat' marks' = linked-points S n image fat fats marks ids m endOfChain image' fat' marks'
 
 -- a chain that is as long as it has to be, and one that is longer
 pub shrink-none : (S : ℕ) (c : Chain) (m : ℕ) → c .count ≤ m → shrink S c m ≡ c
@@ -84,8 +66,8 @@ module _ (S R m : ℕ) (c : Chain) (f : FitsShrink S R m c) where
   shrink-last : 0 < m → getD (c .ids) (m - 1) 0 < c .hand .disk .sectors
   shrink-last e = f .fits .within (m - 1) (omega (arith, e, f .within))
 
-  pub shrink-cut : FitsCut S R m (c .ids) (c .hand)
-  shrink-cut = record { fits = f .fits .fits; listed = shrink-place; last = shrink-last }
+  pub shrink-cut : FitsLast S (c .hand .disk .sectors) (length (c .hand .disk .image)) (length (c .hand .disk .fat)) (c .hand .disk .fats) (length (c .hand .marks)) (c .ids) m
+  shrink-cut = last-fits S R (c .hand) (c .ids) m (f .fits .fits) shrink-place shrink-last
 
   abbrev cutOf : Hand
   cutOf = cut S (c .hand) (c .ids) m

@@ -7,12 +7,19 @@ use native.Mathlib.Omega.{arith}
 use lib.ListN.{length, getD, set}
 use lib.Seq.{getD-set-same, getD-set-other}
 use Rattle.lists.proofs.Cases.{same-or}
-use Rattle.moves.specs.Disk.{ready}
+use Rattle.moves.specs.Disk.{Disk, ready}
 use Rattle.moves.specs.Hand.{Hand, Chain, point, linked, takenId, takeSector, extendOne, extend}
 use Rattle.moves.specs.Fits.{FitsChain, FitsMore}
 use Rattle.moves.specs.Change.{Apart}
+use Rattle.moves.proofs.Needing.{one-more-between}
+use Rattle.moves.proofs.Fitting.{ready-sectors}
 use Rattle.moves.proofs.Taking.{take-none, take-one, id-new, id-last}
-use Rattle.moves.proofs.AssumedToo.{ready-least, linked-none, linked-last, one-count, one-free, more-place, one-fits, extend-none, extend-more}
+use Rattle.moves.proofs.Linking.{linked-none, linked-last, one-count, one-free, more-place, one-fits}
+use Rattle.moves.proofs.Extending.{extend-none, extend-more}
+
+-- a sector that is new is none of those that there are
+pub ready-least : (S : ℕ) (d : Disk) → d .sectors ≤ ready S d .sectors
+ready-least S d = omega (arith, ready-sectors S d, one-more-between S (d .sectors) .0)
 
 -- pointing and linking leave the free list
 point-frees : (S : ℕ) (h : Hand) (i v : ℕ) → point S h i v .frees ≡ h .frees

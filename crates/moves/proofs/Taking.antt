@@ -1,28 +1,26 @@
 -- The laws of a sector taken. Assumes nothing.
 use Prim.Native.Nat.{ℕ, suc, _+_, _-_, _*_, _/_, _≤_, _<_}
-use mathlib.Core.Path.{_≡_, refl, _∙_, sym, ap}
-use mathlib.Core.Bool.{Bool, true, false}
+use mathlib.Core.Path.{_≡_, refl, ap}
 use mathlib.Core.List.{List}
-use mathlib.Core.Logic.{_⊎_, inl, inr, ⊎-elim, _≢_}
+use mathlib.Core.Logic.{⊎-elim, _≢_}
 use native.Mathlib.Omega.{arith}
 use borrow.Author.Tests.{eq-eqb, ne-eqb}
-use lib.Dec.{eqb}
 use lib.ListN.{length, getD, set, length-set}
 use lib.Seq.{getD-set-other}
-use Rattle.lists.specs.Lists.{choose, splice}
-use Rattle.lists.proofs.Cases.{same-or, below-or}
+use Rattle.lists.specs.Lists.{splice}
+use Rattle.lists.proofs.Cases.{same-or}
 use Rattle.words.specs.Words.{digits}
 use Rattle.consts.specs.Consts.{endOfChain}
 use Rattle.sectors.specs.Sectors.{startOf, perSector}
 use Rattle.sectors.specs.Init.{initBytes}
 use Rattle.sectors.specs.declared.init.SectorInit.the-variants.{Zero}
 use Rattle.sectors.proofs.Laws.{sector-within}
-use Rattle.fat.specs.Lists.{fatCount, difatCount, most}
+use Rattle.fat.specs.Lists.{most}
 use Rattle.moves.specs.Disk.{Disk, store, setFat, entryPlace, ready, newSector, oneMore}
 use Rattle.moves.specs.Hand.{Hand, reused, takenId, takeSector}
-use Rattle.moves.specs.Fits.{Fits, FitsWhole, FitsNew, FitsHand, FitsStock}
-use Rattle.moves.proofs.Assumed.{reused-fits, reused-long, new-fits, new-long, ready-sectors, new-sectors, one-more-grows}
-use Rattle.moves.proofs.Pointing.{entry-inside}
+use Rattle.moves.specs.Fits.{FitsWhole, FitsNew, FitsHand, FitsStock}
+use Rattle.moves.proofs.Fitting.{reused-fits, reused-long, reused-sectors, new-fits, new-long, ready-sectors, new-sectors, one-more-grows}
+use Rattle.moves.proofs.Pointing.{HandLong, entry-in-hand}
 
 -- a FREE sector's entry set, and its bytes made zero
 pub reused-of : (S : ℕ) (image fat fats : List ℕ) (id : ℕ) (put fat' image' : List ℕ)
@@ -39,7 +37,7 @@ stock-new S R d frees free f e = record { fits = f .disk; room = f .room e }
 
 -- a new sector's id is small
 pub new-small : (S R : ℕ) (d : Disk) (id : ℕ) → FitsNew S R d → id ≡ ready S d .sectors → id < most
-new-small S R d id f e = omega (arith, ready-sectors S R d f, f .room, f .fits .few, e)
+new-small S R d id f e = omega (arith, ready-sectors S d, f .room, f .fits .few, e)
 
 -- the last of the free list is a sector in hand
 pub last-below : (S R : ℕ) (d : Disk) (frees : List ℕ) (free : ℕ) → FitsStock S R d frees free → free ≢ 0 → getD frees (free - 1) 0 < d .sectors
@@ -51,7 +49,7 @@ pub reuse-inside : (S R : ℕ) (d : Disk) (id : ℕ) → FitsWhole S R d → id 
     × (((id < length (d .fat)) × (id / perSector S < length (d .fats)))
     × ((startOf S (getD (d .fats) (id / perSector S) 0) + S ≤ length (d .image)) × (startOf S id + S ≤ length (d .image))))
 reuse-inside S R d id f h =
-    let e = entry-inside S R d id f h in
+    let e = entry-in-hand S R d id f h in
     ((f .holds .entries, omega (arith, f .holds .two)), ((e .0, e .1), (e .2, sector-within S R (length (d .image)) id (f .holds) (omega (arith, f .inside)))))
 
 -- a sector taken where none is FREE
@@ -63,9 +61,10 @@ pub taken-new : (S n free : ℕ) (image fat fats difats frees : List ℕ) (id m 
     × (record { disk = record { image = image'; fat = fat'; fats = fats'; difats = difats'; sectors = m }; frees = frees; free = 0; marks = marks }
     ≡ takeSector S (record { disk = record { image = image; fat = fat; fats = fats; difats = difats; sectors = n }; frees = frees; free = free; marks = marks }))
 unfolding takenId takeSector
-taken-new S n free image fat fats difats frees id m image' fat' fats' difats' z p s marks =
-    (rw (eq-eqb free 0 z) (p .0),
-    rw (eq-eqb free 0 z, s, z) (ap (λ (d : Disk). record { disk = d; frees = frees; free = 0; marks = marks }) (p .1)))
+taken-new S n free image fat fats difats frees id m image' fat' fats' difats' z p s marks = (
+  rw (eq-eqb free 0 z) (p .0),
+  rw (eq-eqb free 0 z, s, z) (ap (λ (d : Disk). record { disk = d; frees = frees; free = 0; marks = marks }) (p .1)),
+)
 
 -- the last of the free list taken
 pub taken-free : (S n free : ℕ) (image fat fats difats frees : List ℕ) (image' fat' : List ℕ) → free ≢ 0
@@ -77,9 +76,10 @@ pub taken-free : (S n free : ℕ) (image fat fats difats frees : List ℕ) (imag
     × (record { disk = record { image = image'; fat = fat'; fats = fats; difats = difats; sectors = n }; frees = set frees (free - 1) 0; free = free - 1; marks = marks }
     ≡ takeSector S (record { disk = record { image = image; fat = fat; fats = fats; difats = difats; sectors = n }; frees = frees; free = free; marks = marks }))
 unfolding takenId takeSector
-taken-free S n free image fat fats difats frees image' fat' z p marks =
-    (rw (ne-eqb free 0 z),
-    rw (ne-eqb free 0 z) (ap (λ (d : Disk). record { disk = d; frees = set frees (free - 1) 0; free = free - 1; marks = marks }) (p difats n)))
+taken-free S n free image fat fats difats frees image' fat' z p marks = (
+  rw (ne-eqb free 0 z),
+  rw (ne-eqb free 0 z) (ap (λ (d : Disk). record { disk = d; frees = set frees (free - 1) 0; free = free - 1; marks = marks }) (p difats n)),
+)
 
 -- a sector taken, by whether one is FREE
 pub take-none : (S : ℕ) (h : Hand) → h .free ≡ 0 → takeSector S h ≡ record { disk = newSector S (h .disk); frees = h .frees; free = h .free; marks = h .marks }
@@ -100,15 +100,27 @@ pub id-last : (S : ℕ) (h : Hand) → h .free ≢ 0 → takenId S h ≡ getD (h
 unfolding takenId
 id-last S h e = rw (ne-eqb (h .free) 0 e)
 
--- a sector used again is no sector more, and the tables stay as long
-pub reused-sectors : (S : ℕ) (d : Disk) (id : ℕ) → reused S d id .sectors ≡ d .sectors
-unfolding reused setFat store
-reused-sectors S d id = refl
+-- how many are FREE then
+pub take-free : (S : ℕ) (h : Hand) → takeSector S h .free ≡ h .free - 1
+take-free S h =
+    ⊎-elim
+    (λ (e : h .free ≡ 0). rw (take-none S h e) (omega (arith, e)))
+    (λ (e : h .free ≢ 0). rw (take-one S h e))
+    (same-or (h .free) 0)
 
-reused-tables : (S : ℕ) (d : Disk) (id : ℕ)
-    → (length (reused S d id .fat) ≡ length (d .fat)) × (length (reused S d id .fats) ≡ length (d .fats)) × (length (reused S d id .difats) ≡ length (d .difats))
-unfolding reused setFat store
-reused-tables S d id = (length-set (d .fat) id endOfChain, refl, refl)
+-- how many sectors there are then
+pub take-sectors-new : (S : ℕ) (h : Hand) → h .free ≡ 0 → takeSector S h .disk .sectors ≡ oneMore S (h .disk .sectors)
+take-sectors-new S h e = rw (take-none S h e) (new-sectors S (h .disk))
+
+pub take-sectors-same : (S : ℕ) (h : Hand) → h .free ≢ 0 → takeSector S h .disk .sectors ≡ h .disk .sectors
+take-sectors-same S h e = rw (take-one S h e) (reused-sectors S (h .disk) (getD (h .frees) (h .free - 1) 0))
+
+pub take-sectors-grow : (S : ℕ) (h : Hand) → h .disk .sectors ≤ takeSector S h .disk .sectors
+take-sectors-grow S h =
+    ⊎-elim
+    (λ (e : h .free ≡ 0). omega (arith, take-sectors-new S h e, one-more-grows S (h .disk .sectors)))
+    (λ (e : h .free ≢ 0). omega (arith, take-sectors-same S h e))
+    (same-or (h .free) 0)
 
 -- a sector can be taken from a hand that has room
 module _ (S R : ℕ) (h : Hand) (f : FitsHand S R h) (room : h .free ≡ 0 → oneMore S (h .disk .sectors) ≤ R) where
@@ -122,33 +134,12 @@ module _ (S R : ℕ) (h : Hand) (f : FitsHand S R h) (room : h .free ≡ 0 → o
   last-of : h .free ≢ 0 → getD (h .frees) (h .free - 1) 0 < h .disk .sectors
   last-of e = f .frees-below (h .free - 1) (omega (arith, e))
 
-  -- how many sectors there are then, and how many of them are FREE
-  pub take-sectors-new : h .free ≡ 0 → takeSector S h .disk .sectors ≡ oneMore S (h .disk .sectors)
-  take-sectors-new e = rw (take-none S h e) (new-sectors S R (h .disk) (new-of e))
-
-  pub take-sectors-same : h .free ≢ 0 → takeSector S h .disk .sectors ≡ h .disk .sectors
-  take-sectors-same e = rw (take-one S h e) (reused-sectors S (h .disk) (getD (h .frees) (h .free - 1) 0))
-
-  pub take-sectors-grow : h .disk .sectors ≤ takeSector S h .disk .sectors
-  take-sectors-grow =
-      ⊎-elim
-      (λ (e : h .free ≡ 0). omega (arith, take-sectors-new e, one-more-grows S (h .disk .sectors)))
-      (λ (e : h .free ≢ 0). omega (arith, take-sectors-same e))
-      (same-or (h .free) 0)
-
-  pub take-free : takeSector S h .free ≡ h .free - 1
-  take-free =
-      ⊎-elim
-      (λ (e : h .free ≡ 0). rw (take-none S h e) (omega (arith, e)))
-      (λ (e : h .free ≢ 0). rw (take-one S h e))
-      (same-or (h .free) 0)
-
   -- the sector that is taken is one of them
   pub taken-below : takenId S h < takeSector S h .disk .sectors
   taken-below =
       ⊎-elim
-      (λ (e : h .free ≡ 0). omega (arith, id-new S h e, take-sectors-new e, ready-sectors S R (h .disk) (new-of e)))
-      (λ (e : h .free ≢ 0). omega (arith, id-last S h e, take-sectors-same e, last-of e))
+      (λ (e : h .free ≡ 0). omega (arith, id-new S h e, take-sectors-new S h e, ready-sectors S (h .disk)))
+      (λ (e : h .free ≢ 0). omega (arith, id-last S h e, take-sectors-same S h e, last-of e))
       (same-or (h .free) 0)
 
   -- what the code asks for is left
@@ -174,41 +165,15 @@ module _ (S R : ℕ) (h : Hand) (f : FitsHand S R h) (room : h .free ≡ 0 → o
       }))
       (same-or (h .free) 0)
 
-  -- everything that is lent stays as long
-  pub take-image : length (takeSector S h .disk .image) ≡ length (h .disk .image)
-  take-image =
+  -- and everything that is lent stays as long
+  pub take-long : HandLong h (takeSector S h)
+  take-long =
       ⊎-elim
-      (λ (e : h .free ≡ 0). rw (take-none S h e) (new-long S R (h .disk) (new-of e) .0))
-      (λ (e : h .free ≢ 0). rw (take-one S h e) (reused-long S R (h .disk) (getD (h .frees) (h .free - 1) 0) (last-of e) (f .disk)))
+      (λ (e : h .free ≡ 0). rw (take-none S h e) (record { disk = new-long S R (h .disk) (new-of e); frees-same = refl; marks-same = refl }))
+      (λ (e : h .free ≢ 0). rw (take-one S h e)
+      (record {
+        disk = reused-long S R (h .disk) (getD (h .frees) (h .free - 1) 0) (last-of e) (f .disk);
+        frees-same = length-set (h .frees) (h .free - 1) 0;
+        marks-same = refl;
+      }))
       (same-or (h .free) 0)
-
-  pub take-fat : length (takeSector S h .disk .fat) ≡ length (h .disk .fat)
-  take-fat =
-      ⊎-elim
-      (λ (e : h .free ≡ 0). rw (take-none S h e) (new-long S R (h .disk) (new-of e) .1))
-      (λ (e : h .free ≢ 0). rw (take-one S h e) (reused-tables S (h .disk) (getD (h .frees) (h .free - 1) 0) .0))
-      (same-or (h .free) 0)
-
-  pub take-fats : length (takeSector S h .disk .fats) ≡ length (h .disk .fats)
-  take-fats =
-      ⊎-elim
-      (λ (e : h .free ≡ 0). rw (take-none S h e) (new-long S R (h .disk) (new-of e) .2))
-      (λ (e : h .free ≢ 0). rw (take-one S h e) (reused-tables S (h .disk) (getD (h .frees) (h .free - 1) 0) .1))
-      (same-or (h .free) 0)
-
-  pub take-difats : length (takeSector S h .disk .difats) ≡ length (h .disk .difats)
-  take-difats =
-      ⊎-elim
-      (λ (e : h .free ≡ 0). rw (take-none S h e) (new-long S R (h .disk) (new-of e) .3))
-      (λ (e : h .free ≢ 0). rw (take-one S h e) (reused-tables S (h .disk) (getD (h .frees) (h .free - 1) 0) .2))
-      (same-or (h .free) 0)
-
-  pub take-frees : length (takeSector S h .frees) ≡ length (h .frees)
-  take-frees =
-      ⊎-elim
-      (λ (e : h .free ≡ 0). rw (take-none S h e))
-      (λ (e : h .free ≢ 0). rw (take-one S h e) (length-set (h .frees) (h .free - 1) 0))
-      (same-or (h .free) 0)
-
-  pub take-marks : takeSector S h .marks ≡ h .marks
-  take-marks = ⊎-elim (λ (e : h .free ≡ 0). rw (take-none S h e)) (λ (e : h .free ≢ 0). rw (take-one S h e)) (same-or (h .free) 0)

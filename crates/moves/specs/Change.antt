@@ -10,7 +10,7 @@ use Rattle.consts.specs.Consts.{endOfChain}
 use Rattle.fat.specs.Lists.{ceil}
 use Rattle.alloc.specs.Opened.{padded}
 use Rattle.chain.specs.Stores.{writeBytes, zeroTail}
-use Rattle.moves.specs.Fits.{FitsHand, FitsChain, FitsMore}
+use Rattle.moves.specs.Fits.{FitsChain, FitsMore}
 use Rattle.moves.specs.Hand.{Hand, Chain, linked, freeRun, extend}
 
 -- the last of the first m sectors ends the chain
@@ -74,12 +74,6 @@ pub record Apart (c : Chain) : Type 0 where
   pub ids-once : (i j : ℕ) → i < c .count → j < c .count → getD (c .ids) i 0 ≡ getD (c .ids) j 0 → i ≡ j
   pub frees-once : (i j : ℕ) → i < c .hand .free → j < c .hand .free → getD (c .hand .frees) i 0 ≡ getD (c .hand .frees) j 0 → i ≡ j
   pub ids-frees : (i j : ℕ) → i < c .count → j < c .hand .free → getD (c .ids) i 0 ≢ getD (c .hand .frees) j 0
-
--- the last of the first m ids, if any, is a sector in hand
-pub record FitsCut (S R m : ℕ) (ids : List ℕ) (h : Hand) : Type 0 where
-  pub fits : FitsHand S R h
-  pub listed : m ≤ length ids
-  pub last : 0 < m → getD ids (m - 1) 0 < h .disk .sectors
 
 -- a chain that can be cut behind m of its sectors
 pub record FitsShrink (S R m : ℕ) (c : Chain) : Type 0 where

@@ -79,12 +79,15 @@ unfolding store
 storePlace S d p id =
     store d (startOf S (getD (d .difats) ((p - 109) / (perSector S - 1)) 0) + 4 * ((p - 109) % (perSector S - 1))) (digits 4 id)
 
+-- document 01: the disk whose DIFAT has place p, 109 or later: a DIFAT sector is added where none holds it
+unfoldable pub holdPlace : ℕ → Disk → ℕ → Disk
+unfolding appendDifat needsDifat
+holdPlace S d p = choose (needsDifat S p) (appendDifat S d ((p - 109) / (perSector S - 1))) d
+
 -- document 01: place p below 109 goes to 76 + 4 p; a later one into a DIFAT sector, which is added first where none holds it
 unfoldable pub listPlace : ℕ → Disk → ℕ → ℕ → Disk
-unfolding store storePlace appendDifat needsDifat
-listPlace S d p id =
-    choose (ltb p 109) (store d (offsetOf entriesAt + 4 * p) (digits 4 id))
-    (storePlace S (choose (needsDifat S p) (appendDifat S d ((p - 109) / (perSector S - 1))) d) p id)
+unfolding store storePlace holdPlace
+listPlace S d p id = choose (ltb p 109) (store d (offsetOf entriesAt + 4 * p) (digits 4 id)) (storePlace S (holdPlace S d p) p id)
 
 -- document 01: the next sector becomes a FAT sector: new, listed, marked, in its place of the DIFAT, and counted in header 44
 unfoldable pub appendFat : ℕ → Disk → Disk

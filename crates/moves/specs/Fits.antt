@@ -1,10 +1,10 @@
 -- What the code of the moves asks for: every number that it goes by lies within what is lent. Assumes nothing.
-use Prim.Native.Nat.{ℕ, suc, _+_, _-_, _/_, _%_, _≤_, _<_}
+use Prim.Native.Nat.{ℕ, suc, _+_, _-_, _*_, _/_, _%_, _≤_, _<_}
 use mathlib.Core.Path.{_≡_}
 use mathlib.Core.Bool.{true}
 use mathlib.Core.List.{List}
 use lib.ListN.{length, getD}
-use Rattle.sectors.specs.Sectors.{perSector, Holds}
+use Rattle.sectors.specs.Sectors.{startOf, perSector, Holds}
 use Rattle.fat.specs.Lists.{most, fatCount, difatCount}
 use Rattle.moves.specs.Disk.{Disk, needsDifat, afterFat, oneMore, countAfter}
 use Rattle.moves.specs.Hand.{Hand, Chain}
@@ -71,6 +71,16 @@ pub record FitsFrees (S R i c : ℕ) (ids : List ℕ) (h : Hand) : Type 0 where
   pub listed : i + c ≤ length ids
   pub within : (j : ℕ) → j < i + c → getD ids j 0 < h .disk .sectors
   pub room : h .free + c ≤ h .disk .sectors
+
+-- the last of count ids, if any, is a sector whose entry can be set
+pub record FitsLast (S n image fat : ℕ) (fats : List ℕ) (marks : ℕ) (ids : List ℕ) (count : ℕ) : Type 0 where
+  pub entries : S ≡ 4 * perSector S
+  pub some : 1 ≤ perSector S
+  pub marks-long : n ≤ marks
+  pub listed : count ≤ length ids
+  pub last-fat : 0 < count → getD ids (count - 1) 0 < fat
+  pub last-sector : 0 < count → getD ids (count - 1) 0 / perSector S < length fats
+  pub last-inside : 0 < count → startOf S (getD fats (getD ids (count - 1) 0 / perSector S) 0) + S ≤ image
 
 -- a chain in hand, with room for R ids
 pub record FitsChain (S R : ℕ) (c : Chain) : Type 0 where

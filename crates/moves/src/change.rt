@@ -12,7 +12,8 @@ ghost use Prim.Native.Nat.{ℕ, _+_, _-_};
 ghost use lib.ListN.{length, take};
 ghost use Rattle.alloc.specs.Opened.{padded};
 ghost use Rattle.fat.specs.Lists.{roomOf};
-ghost use Rattle.moves.specs.Change.{cut as cutBehind, shrink as shrunk, resized, written, FitsCut, FitsShrink, FitsResize, FitsWrite};
+ghost use Rattle.moves.specs.Change.{cut as cutBehind, shrink as shrunk, resized, written, FitsShrink, FitsResize, FitsWrite};
+ghost use Rattle.moves.specs.Fits.{FitsLast};
 
 // What a change leaves: how many sectors there are, how many of them are FREE, and how many the chain has.
 pub struct Changed {
@@ -41,7 +42,7 @@ fn cut(
     ids: &[u32],
     m: usize,
 )
-    requires { ⌜ ((difats : List ℕ) × (frees : List ℕ) × (free : ℕ) × FitsCut s (roomOf s (length (now image))) m (now ids) (record { disk = record { image = now image; fat = now fat; fats = now fats; difats = difats; sectors = n }; frees = frees; free = free; marks = now marks })) ⌝ }
+    requires { ⌜ FitsLast s n (length (now image)) (length (now fat)) (now fats) (length (now marks)) (now ids) m ⌝ }
     ensures { λ _. ⌜ ((difats frees : List ℕ) (free : ℕ) → record { disk = record { image = now (image .exit); fat = now (fat .exit); fats = now (fats .exit); difats = difats; sectors = n }; frees = frees; free = free; marks = now (marks .exit) } ≡ cutBehind s (record { disk = record { image = now (image .entry); fat = now (fat .entry); fats = now (fats .entry); difats = difats; sectors = n }; frees = frees; free = free; marks = now (marks .entry) }) (now (ids .entry)) m) ⌝ }
 {
     if m == 0 {

@@ -15,7 +15,7 @@ ghost use Rattle.lists.specs.Lists.{splice};
 ghost use Rattle.words.specs.Words.{digits};
 ghost use Rattle.sectors.specs.Sectors.{startOf, perSector};
 ghost use Rattle.fat.specs.Lists.{most, roomOf};
-ghost use Rattle.moves.specs.Disk.{entryPlace, linkPlace, appendDifat, listPlace, appendFat, ready, newSector, needsDifat as needsDifatOf};
+ghost use Rattle.moves.specs.Disk.{entryPlace, linkPlace, appendDifat, holdPlace, listPlace, appendFat, ready, newSector, needsDifat as needsDifatOf};
 ghost use Rattle.moves.specs.Fits.{FitsOne, FitsPlace, FitsFat, FitsNew};
 
 // Sets entry i of the FAT, in the table and in the image.
@@ -79,6 +79,26 @@ pub(crate) fn needs_difat(s: usize, p: usize) -> bool
     ceil(p - 109, each) <= (p - 109) / each
 }
 
+// Makes sector n a DIFAT sector where none has place p of the DIFAT, 109 or later. How many sectors there are then.
+fn hold_place(
+    image: &mut [u8],
+    s: usize,
+    n: usize,
+    fat: &mut [u32],
+    fats: &[u32],
+    difats: &mut [u32],
+    p: usize,
+) -> usize
+    requires { ⌜ (109 ≤ p) × FitsPlace s (roomOf s (length (now image))) p (record { image = now image; fat = now fat; fats = now fats; difats = now difats; sectors = n }) ⌝ }
+    ensures { λ r. ⌜ record { image = now (image .exit); fat = now (fat .exit); fats = now (fats .exit); difats = now (difats .exit); sectors = r } ≡ holdPlace s (record { image = now (image .entry); fat = now (fat .entry); fats = now (fats .entry); difats = now (difats .entry); sectors = n }) p ⌝ }
+{
+    if !needs_difat(s, p) {
+        return n;
+    }
+    append_difat_sector(image, s, n, fat, fats, difats, (p - 109) / (s / 4 - 1));
+    n + 1
+}
+
 // Stores FAT sector id in place p of the DIFAT: in the header, or in a DIFAT sector, which is sector n where none has the place. How many sectors there are then.
 fn list_place(
     image: &mut [u8],
@@ -97,14 +117,9 @@ fn list_place(
         put_place(image, p, id);
         return n;
     }
+    let count = hold_place(image, s, n, fat, fats, difats, p);
     let each = s / 4 - 1;
-    let j = (p - 109) / each;
-    let mut count = n;
-    if needs_difat(s, p) {
-        append_difat_sector(image, s, n, fat, fats, difats, j);
-        count = n + 1;
-    }
-    let sector = difats[j] as usize;
+    let sector = difats[(p - 109) / each] as usize;
     put_at(image, s, sector, (p - 109) % each, id);
     count
 }
@@ -131,6 +146,24 @@ fn append_fat_sector(
     count
 }
 
+// Makes a FAT sector where the FAT is full: the next sector is for data then. Its id.
+fn make_ready(
+    image: &mut [u8],
+    s: usize,
+    n: usize,
+    fat: &mut [u32],
+    fats: &mut [u32],
+    difats: &mut [u32],
+) -> usize
+    requires { ⌜ FitsNew s (roomOf s (length (now image))) (record { image = now image; fat = now fat; fats = now fats; difats = now difats; sectors = n }) ⌝ }
+    ensures { λ r. ⌜ record { image = now (image .exit); fat = now (fat .exit); fats = now (fats .exit); difats = now (difats .exit); sectors = r } ≡ ready s (record { image = now (image .entry); fat = now (fat .entry); fats = now (fats .entry); difats = now (difats .entry); sectors = n }) ⌝ }
+{
+    if n % (s / 4) != 0 {
+        return n;
+    }
+    append_fat_sector(image, s, n, fat, fats, difats)
+}
+
 // Makes the next sector a chain's last one, zero, after a FAT sector where the FAT is full. Its id: there are that many and one more sectors then.
 pub fn new_sector(
     image: &mut [u8],
@@ -143,10 +176,7 @@ pub fn new_sector(
     requires { ⌜ FitsNew s (roomOf s (length (now image))) (record { image = now image; fat = now fat; fats = now fats; difats = now difats; sectors = n }) ⌝ }
     ensures { λ r. ⌜ (r ≡ ready s (record { image = now (image .entry); fat = now (fat .entry); fats = now (fats .entry); difats = now (difats .entry); sectors = n }) .sectors) × (record { image = now (image .exit); fat = now (fat .exit); fats = now (fats .exit); difats = now (difats .exit); sectors = suc r } ≡ newSector s (record { image = now (image .entry); fat = now (fat .entry); fats = now (fats .entry); difats = now (difats .entry); sectors = n })) ⌝ }
 {
-    let mut id = n;
-    if n % (s / 4) == 0 {
-        id = append_fat_sector(image, s, n, fat, fats, difats);
-    }
+    let id = make_ready(image, s, n, fat, fats, difats);
     set_fat(image, s, fat, fats, id, consts::END_OF_CHAIN);
     init_at(image, s, id, SectorInit::Zero);
     id

@@ -4,13 +4,13 @@ use crate::disk::set_fat;
 use sectors::init::SectorInit;
 use sectors::init::init_at;
 ghost use mathlib.Core.Path.{_≡_};
-ghost use Prim.Native.Nat.{ℕ, suc, _+_, _-_, _*_, _/_, _≤_, _<_};
+ghost use Prim.Native.Nat.{ℕ, suc, _+_, _*_, _/_, _≤_, _<_};
 ghost use mathlib.Core.List.{List};
-ghost use lib.ListN.{length, getD, set};
+ghost use lib.ListN.{length, getD};
 ghost use Rattle.sectors.specs.Sectors.{startOf, perSector};
 ghost use Rattle.fat.specs.Lists.{roomOf};
-ghost use Rattle.moves.specs.Fits.{FitsStock, FitsFrees, FitsMore};
-ghost use Rattle.moves.specs.Hand.{marked, Points, reused, takenId, takeSector, freeRun, extendOne, extend};
+ghost use Rattle.moves.specs.Fits.{FitsStock, FitsFrees, FitsLast, FitsMore};
+ghost use Rattle.moves.specs.Hand.{marked, Points, reused, takenId, takeSector, freeRun, linked, extendOne, extend};
 
 // Sets the mark of sector t, where t is one of n.
 fn set_mark(n: usize, marks: &mut [u8], t: u32, v: u8)
@@ -131,6 +131,28 @@ pub fn free_run(
     }
 }
 
+// Makes the last of count ids point at sector id; a chain of none begins with it.
+fn link_last(
+    image: &mut [u8],
+    s: usize,
+    n: usize,
+    fat: &mut [u32],
+    fats: &[u32],
+    marks: &mut [u8],
+    ids: &[u32],
+    count: usize,
+    id: u32,
+)
+    requires { ⌜ FitsLast s n (length (now image)) (length (now fat)) (now fats) (length (now marks)) (now ids) count ⌝ }
+    ensures { λ _. ⌜ ((difats frees : List ℕ) (free : ℕ) → record { disk = record { image = now (image .exit); fat = now (fat .exit); fats = now (fats .exit); difats = difats; sectors = n }; frees = frees; free = free; marks = now (marks .exit) } ≡ linked s (record { disk = record { image = now (image .entry); fat = now (fat .entry); fats = now (fats .entry); difats = difats; sectors = n }; frees = frees; free = free; marks = now (marks .entry) }) (now (ids .entry)) count id) ⌝ }
+{
+    if count == 0 {
+        return;
+    }
+    let last = ids[count - 1] as usize;
+    point(image, s, n, fat, fats, marks, last, id);
+}
+
 // Takes a sector, links it behind the last of count ids, and lists it.
 fn extend_one(
     image: &mut [u8],
@@ -150,10 +172,8 @@ fn extend_one(
 {
     let taken = take_sector_id(image, s, n, free, fat, fats, difats, frees);
     let id = taken.id;
-    if count != 0 {
-        let last = ids[count - 1] as usize;
-        point(image, s, taken.sectors, fat, fats, marks, last, id);
-    }
+    let sectors = taken.sectors;
+    link_last(image, s, sectors, fat, fats, marks, ids, count, id);
     ids[count] = id;
     taken
 }

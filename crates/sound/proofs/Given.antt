@@ -9,7 +9,7 @@ use borrow.Author.Tests.{ltb-true, ltb-false, lt-ltb, le-leb, lt-leb, leb-true, 
 use lib.Dec.{eqb, leb, ltb}
 use lib.ListN.{length, getD}
 use Rattle.lists.specs.Lists.{choose, both, either, every, tab}
-use Rattle.lists.specs.Rows.{Row, row, testOf, ascend, Explained, Judged}
+use Rattle.lists.specs.Rows.{Row, row, testOf, ascend, byNumber, Explained, Judged}
 use Rattle.lists.proofs.Cases.{refuted, both-fails, every-fails, one-other, other-one, below-or, same-or, not-both, both-true, both-left, both-right, both-false-left, both-false-right, either-cases, either-right, either-none, every-false, unlike}
 use Rattle.lists.proofs.Exactly.{_▸_, exactly, accepted, explained-by, explained-append, tested-append, tested-easier}
 use Rattle.lists.proofs.Tab.{length-tab, getD-tab}
@@ -386,9 +386,9 @@ module _ (m : Validation) (img : List ℕ) (used short : ℕ) where
       (explained-append C (headerRows m img) sizeRows (header-told (refuted _ (λ t. not-both (too-short (ltb-true _ _ t)) f1))) size-told) tables-told
 
   -- the opening's table judges by the opening's causes
-  open-judged : Judged (openRows m img used short) (OpenCause m img used short)
+  open-judged : Judged byNumber (openRows m img used short) (OpenCause m img used short)
   unfolding ascend openRows firstRows headerRows tableRows fatRows
-  open-judged = record { ascends = refl; tested = open-tested; told = open-told }
+  open-judged = record { none = refl; ascends = refl; tested = open-tested; told = open-told }
 
   -- document 01: each number is given exactly when its cause holds and none before it does
   pub open-exactly : (k : ℕ) → 1 ≤ k → (openNo m img used short ≡ k) ↔ (OpenCause m img used short k × ((j : ℕ) → j < k → OpenCause m img used short j → ⊥))

@@ -18,17 +18,19 @@ fn main() -> ExitCode {
 
 #[cfg(all(oracle, not(feature = "model")))]
 mod timed {
-    use oracle::abi::{self, Lent, State, Tables};
+    use oracle::abi::{self, Answer, Handed, Lent, State, Tables};
     use oracle::asked;
+    use oracle::changed::{Change, Holding};
+    use oracle::edits::buffer;
     use oracle::held;
-    use oracle::image;
+    use oracle::image::{self, Store};
     use oracle::inputs::END;
     use oracle::internal::Validation::Strict;
     use oracle::internal::{Allocator, Chain, SectorInit};
     use oracle::layout::Layout;
     use oracle::random::Random;
     use std::hint::black_box;
-    use std::io::{Cursor, Read};
+    use std::io::{Cursor, Read, Seek, SeekFrom, Write};
     use std::time::{Duration, Instant};
 
     /// How often each side is timed, after a few rounds that are not counted.
@@ -49,10 +51,17 @@ order or scattered.
 - agreement: `rasuvelk_open_chain` with the start END: that image, state and tables agree, and no walk. The tables are
   those of the opening, and the id list holds rubbish. The Rust keeps its tables and has no such thing: beside it stands
   its opening.
+- walk, ours: `rasuvelk_open_chain` of the whole chain: the agreement and the ids. The Rust's: `Chain::new`.
 - whole chain, ours: `rasuvelk_read_chain` of the whole chain into a buffer as long as it. The agreement is part of every
   call, and the time without it cannot be had.
 - whole chain, the Rust's: `Chain::new` on an allocator that was opened before, and `read` until the buffer is full. A read
   copies sectors that follow one another at once. The buffers hold rubbish before, on both sides.
+- changes, ours: `rasuvelk_write_chain`, `rasuvelk_resize_chain` or `rasuvelk_free_chain`. The agreement is part of every
+  call. Image, state and tables are put back before each call, which is not counted; the id list holds rubbish.
+- changes, the Rust's: `Chain::new` on an allocator over a byte vector, `seek` and `write_all`, or `set_len`, or `free`. A
+  copy of the image is opened anew before each, which is not counted.
+- the changes: 512 bytes written over a sector in the middle of the chain; 64 KiB written to its end, which takes 128 FREE
+  sectors; half of its sectors given up, and one byte more; all of them freed.
 ";
 
     /// FAT and DIFAT sectors, one chain, ascending or scattered, and an eighth that is FREE; and where the chain starts.
@@ -194,6 +203,96 @@ order or scattered.
             };
             line(what, read_ours, read_rusts);
         }
+
+        /// A line with the chain walked by both.
+        fn walk(&self, what: &str) {
+            let mut rust = image::lend(&self.image, Strict).unwrap();
+            let mut ids = vec![0; self.tables.fat.len()];
+            let mut answer = [7; 3];
+            let walk_ours = || {
+                ids.fill(0x5a5a_5a5a);
+                time(|| abi::open_chain(&self.lent(), &mut ids, self.start, &mut answer))
+            };
+            let walk_rusts = || time(|| Chain::new(&mut rust, self.start, SectorInit::Zero).unwrap().num_sectors());
+            line(what, walk_ours, walk_rusts);
+        }
+
+        /// The bytes of the chain.
+        fn length(&self) -> u64 {
+            let mut rust = image::lend(&self.image, Strict).unwrap();
+            512 * asked::open_chain(&mut rust, self.start).unwrap().len() as u64
+        }
+
+        /// Image, state and tables as they were opened.
+        fn holding(&self) -> Holding {
+            Holding { state: self.state, image: self.image.clone(), tables: self.tables.clone() }
+        }
+
+        /// Puts these back.
+        fn put_back(&self, holding: &mut Holding) {
+            holding.state = self.state;
+            holding.image.copy_from_slice(&self.image);
+            holding.tables.clone_from(&self.tables);
+        }
+
+        /// A line with a change made by both, after a look at what they make of it.
+        fn change(&self, what: &str, change: &Change) {
+            let mut held = self.holding();
+            let mut ids = vec![0; self.tables.fat.len()];
+            let mut answer = [7; 3];
+            let mut rust = image::open(self.image.clone(), Strict).unwrap();
+            assert_eq!(change_ours(&mut held, &mut ids, self.start, change, &mut answer), 0);
+            assert_eq!(change_rusts(&mut rust, self.start, change) as u64, answer[0]);
+            assert!(held.used() == image::bytes_of(&rust));
+            assert!(held.frees() == image::free_list(&mut rust).unwrap());
+            let ours = || {
+                self.put_back(&mut held);
+                ids.fill(0x5a5a_5a5a);
+                time(|| change_ours(&mut held, &mut ids, self.start, change, &mut answer))
+            };
+            let rusts = || {
+                let mut rust = image::open(self.image.clone(), Strict).unwrap();
+                time(|| change_rusts(&mut rust, self.start, change))
+            };
+            line(what, ours, rusts);
+        }
+
+        /// A line for each change.
+        fn changes(&self, what: impl Fn(&str) -> String) {
+            let half = self.length() / 1024 * 512;
+            self.change(&what("one sector written over"), &Change::Write(half, buffer(512)));
+            self.change(&what("64 KiB written to the end"), &Change::Write(self.length(), buffer(65_536)));
+            self.change(&what("resized to the half"), &Change::Resize(half + 1));
+            self.change(&what("freed"), &Change::Free);
+        }
+    }
+
+    /// The library's change.
+    fn change_ours(held: &mut Holding, ids: &mut [u32], start: u32, change: &Change, answer: &mut Answer) -> u32 {
+        let Holding { state, image, tables } = held;
+        let mut handed = Handed { state, image, tables };
+        match change {
+            Change::Write(offset, buf) => abi::write_chain(&mut handed, ids, start, *offset, buf, answer),
+            Change::Resize(length) => abi::resize_chain(&mut handed, ids, start, *length, answer),
+            Change::Free => abi::free_chain(&mut handed, ids, start, answer),
+        }
+    }
+
+    /// The Rust's change: how many sectors the chain has then.
+    fn change_rusts(rust: &mut Allocator<Store>, start: u32, change: &Change) -> usize {
+        let mut chain = Chain::new(rust, start, SectorInit::Zero).unwrap();
+        match change {
+            Change::Write(offset, buf) => {
+                chain.seek(SeekFrom::Start(*offset)).unwrap();
+                chain.write_all(buf).unwrap();
+            }
+            Change::Resize(length) => chain.set_len(*length).unwrap(),
+            Change::Free => {
+                chain.free().unwrap();
+                return 0;
+            }
+        }
+        chain.num_sectors()
     }
 
     /// The Rust's walk, and its reads until the buffer is full.
@@ -217,7 +316,9 @@ order or scattered.
                 line(&what("opening"), || timed.open(), || timed.rusts_open());
                 line(&what("opening; the Rust's checks alone"), || timed.open(), || timed.rusts_checks());
                 line(&what("agreement; the Rust's opening"), || timed.agree(), || timed.rusts_open());
+                timed.walk(&what("walk, with the agreement"));
                 timed.read(&what("whole chain, with the agreement"));
+                timed.changes(|part| what(&format!("{part}, with the agreement")));
             }
         }
     }

@@ -32,7 +32,7 @@ fn agree(lent: &Lent) -> bool {
 }
 
 /// Walks from a start: the ids, or the refusal.
-fn walk(fat: &[u32], start: u32) -> Result<Vec<u32>, u32> {
+pub fn walk(fat: &[u32], start: u32) -> Result<Vec<u32>, u32> {
     let n = fat.len();
     if start != END && start as usize >= n {
         return Err(20);
@@ -55,8 +55,8 @@ fn walk(fat: &[u32], start: u32) -> Result<Vec<u32>, u32> {
     Ok(ids)
 }
 
-/// The ids of the chain and the bytes of a sector, or the refusal.
-fn chain(lent: &Lent, listed: usize, start: u32) -> Result<(Vec<u32>, usize), u32> {
+/// The bytes of a sector, if the lengths are long enough and image, state and tables agree; or the refusal.
+pub fn agreed(lent: &Lent, listed: usize) -> Result<usize, u32> {
     let Some(length) = sector_length(lent.state) else {
         return Err(19);
     };
@@ -67,12 +67,18 @@ fn chain(lent: &Lent, listed: usize, start: u32) -> Result<(Vec<u32>, usize), u3
     if !agree(lent) {
         return Err(19);
     }
+    Ok(length)
+}
+
+/// The ids of the chain and the bytes of a sector, or the refusal.
+fn chain(lent: &Lent, listed: usize, start: u32) -> Result<(Vec<u32>, usize), u32> {
+    let length = agreed(lent, listed)?;
     let n = lent.state[abi::SECTORS] as usize;
     Ok((walk(&lent.tables.fat[..n], start)?, length))
 }
 
 /// Leaves the id list and the answer as they must be; 0, or the number of the refusal.
-fn done(found: Result<(Vec<u32>, usize), u32>, ids: &mut [u32], start: u32, answer: &mut Answer) -> u32 {
+pub fn done(found: Result<(Vec<u32>, usize), u32>, ids: &mut [u32], start: u32, answer: &mut Answer) -> u32 {
     *answer = [0; 3];
     match found {
         Ok((chain, read)) => {

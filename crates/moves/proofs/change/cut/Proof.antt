@@ -1,6 +1,7 @@
 -- A chain of none leaves everything; else the entry of its last sector is made to point at END.
 use native.Mathlib.Omega.{arith}
-use Rattle.moves.proofs.Shrinking.{cut-none, cut-last, cut-inside}
+use Rattle.moves.proofs.Linking.{last-inside}
+use Rattle.moves.proofs.Shrinking.{cut-none, cut-last}
 use borrow.Author.Needs.{needs}
 use Rattle.moves.proofs.change.cut.Statement.{statement}
 use Rattle.moves.proofs.change.cut.Tie as tie
@@ -25,10 +26,10 @@ shared-slice-read-last : tie.Need-shared-slice-read-last
 shared-slice-read-last c = search needs
 
 cast-last : tie.Need-cast-last
-cast-last c = let t = c .before in omega (arith, cut-inside _ _ _ _ _ (entry t .pre .3) (t .if1 .left) .1 .0 .0)
+cast-last c = let t = c .before in omega (arith, last-inside _ _ _ _ _ _ _ _ (entry t .pre) (t .if1 .left) .1 .0 .0)
 
 point-requires : tie.Need-point-requires
-point-requires c κs = let t = some c in cut-inside _ _ _ _ _ (entry t .pre .3) (t .if1 .left)
+point-requires c κs = let t = some c in last-inside _ _ _ _ _ _ _ _ (entry t .pre) (t .if1 .left)
 
 same-length : tie.Need-same-length
 same-length c = search needs

@@ -26,7 +26,7 @@ returns c = shrunk-none _ _ _ _ _ _ _ _ _ _ _ _ (c .if1 .taken) (c .before .befo
 cut-requires : tie.Need-cut-requires
 cut-requires c κs =
     let p = begun (c .before .before .before .before) .pre in
-    (p .0, _, _, shrink-cut _ _ _ _ (p .1))
+    shrink-cut _ _ _ _ (p .1)
 
 sub-free-run : tie.Need-sub-free-run
 sub-free-run c = search needs

@@ -14,6 +14,13 @@ Inv-loop image₀ s n free fat₀ fats frees₀ marks₀ ids from count j₀ ima
 abbrev μ-loop : tie.MeasureT-loop
 μ-loop image₀ s n free fat₀ fats frees₀ marks₀ ids from count j₀ image fat frees marks j = count - j
 
+-- the turn that a call of `point` is in, and where it came back
+abbrev turn : tie.After-point-arg3 Inv-loop μ-loop → tie.In-loop Inv-loop μ-loop
+turn c = c .before .before .before .before
+
+abbrev pointed : tie.After-slice-known7 Inv-loop μ-loop → tie.After-point Inv-loop μ-loop
+pointed c = c .before .before .before .before .before .before
+
 loop-holds : tie.Need-loop-holds Inv-loop μ-loop
 loop-holds c = freeing-begun _ _ _ _ _ _ _ _ _ _ _ _ (c .before .before .before .before .before .before .pre)
 
@@ -27,28 +34,30 @@ shared-slice-read-id : tie.Need-shared-slice-read-id Inv-loop μ-loop
 shared-slice-read-id c = freeing-listed (c .before .before .loop .inv) (c .before .loop-test .taken)
 
 cast-point : tie.Need-cast-point Inv-loop μ-loop
-cast-point c = omega (arith, freeing-id (c .before .before .before .before .before .loop .inv) (c .before .before .before .before .loop-test .taken))
+cast-point c = let t = turn c in omega (arith, freeing-id (t .before .loop .inv) (t .loop-test .taken))
 
 point-requires : tie.Need-point-requires Inv-loop μ-loop
-point-requires c κs = point-inside _ _ _ _ (c .before .before .before .before .before .loop .inv .fits .fits) (freeing-id (c .before .before .before .before .before .loop .inv) (c .before .before .before .before .loop-test .taken))
+point-requires c κs = let t = turn c in point-inside _ _ _ _ (t .before .loop .inv .fits .fits) (freeing-id (t .before .loop .inv) (t .loop-test .taken))
 
 add-frees : tie.Need-add-frees Inv-loop μ-loop
-add-frees c = omega (arith, freeing-place (c .before .before .before .before .before .before .before .before .before .before .before .before .loop .inv) (c .before .before .before .before .before .before .before .before .before .before .before .loop-test .taken))
+add-frees c = let t = turn (pointed c .before) in omega (arith, freeing-place (t .before .loop .inv) (t .loop-test .taken))
 
 mul-frees : tie.Need-mul-frees Inv-loop μ-loop
-mul-frees c = omega (arith, freeing-place (c .before .before .before .before .before .before .before .before .before .before .before .before .loop .inv) (c .before .before .before .before .before .before .before .before .before .before .before .loop-test .taken))
+mul-frees c = let t = turn (pointed c .before) in omega (arith, freeing-place (t .before .loop .inv) (t .loop-test .taken))
 
 slice-write-frees : tie.Need-slice-write-frees Inv-loop μ-loop
-slice-write-frees c = freeing-place (c .before .before .before .before .before .before .before .before .before .before .before .before .loop .inv) (c .before .before .before .before .before .before .before .before .before .before .before .loop-test .taken)
+slice-write-frees c = let t = turn (pointed c .before) in freeing-place (t .before .loop .inv) (t .loop-test .taken)
 
 add-j : tie.Need-add-j Inv-loop μ-loop
-add-j c = omega (arith, c .before .before .before .before .before .before .before .before .before .before .before .loop-test .taken)
+add-j c = let t = turn (pointed c .before) in omega (arith, t .loop-test .taken)
 
 loop-less : tie.Need-loop-less Inv-loop μ-loop
-loop-less c = omega (arith, c .before .before .before .before .before .before .before .before .before .before .before .loop-test .taken)
+loop-less c = let t = turn (pointed c .before) in omega (arith, t .loop-test .taken)
 
 loop-again : tie.Need-loop-again Inv-loop μ-loop
-loop-again c = freeing-on (c .before .before .before .before .before .before .before .before .before .before .before .before .loop .inv) (c .before .before .before .before .before .before .before .before .before .before .before .loop-test .taken) _ _ _ (c .before .before .before .before .before .before .point .ensures) (c .before .before .before .before .before .before .point .kept .0) (c .before .before .before .before .before .before .point .kept .1 .1 .1 .0) (c .before .before .before .before .before .before .point .kept .1 .1 .1 .1 .1 .0)
+loop-again c = let p = pointed c in
+    let t = turn (p .before) in
+    freeing-on (t .before .loop .inv) (t .loop-test .taken) _ _ _ (p .point .ensures) (p .point .kept .0) (p .point .kept .1 .1 .1 .0) (p .point .kept .1 .1 .1 .1 .1 .0)
 
 same-length : tie.Need-same-length Inv-loop μ-loop
 same-length c = c .before .loop .inv .image-long

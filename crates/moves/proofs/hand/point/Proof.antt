@@ -4,6 +4,16 @@ use borrow.Author.Needs.{needs}
 use Rattle.moves.proofs.hand.point.Statement.{statement}
 use Rattle.moves.proofs.hand.point.Tie as tie
 
+-- where the entry was set, and where each mark was
+abbrev stored : tie.After-slice-known8 → tie.After-set-fat
+stored c = c .before .before .before .before
+
+abbrev marked : tie.After-set-fat → tie.After-set-mark2
+marked c = c .before .before .before .before .before
+
+abbrev lost : tie.After-set-mark2 → tie.After-set-mark
+lost c = c .before .before .before .before
+
 mul-set-mark : tie.Need-mul-set-mark
 mul-set-mark c = search needs
 
@@ -29,7 +39,9 @@ same-length-3 : tie.Need-same-length-3
 same-length-3 c = search needs
 
 returns : tie.Need-returns
-returns c = points-of _ _ _ _ _ _ _ _ _ _ _ _ (c .before .before .before .before .before .before .before .before .before .before .before .before .before .set-mark .ensures) (c .before .before .before .before .before .before .before .before .before .set-mark2 .ensures) (c .before .before .before .before .set-fat .ensures .0) (c .before .before .before .before .set-fat .ensures .1)
+returns c = let s = stored c in
+    let m = marked s in
+    points-of _ _ _ _ _ _ _ _ _ _ _ _ (lost m .set-mark .ensures) (m .set-mark2 .ensures) (s .set-fat .ensures .0) (s .set-fat .ensures .1)
 
 pub point-spec : {M : Type 1} → statement M
 point-spec =

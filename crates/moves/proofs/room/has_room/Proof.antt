@@ -3,7 +3,7 @@ use Prim.Native.Nat.{ℕ, _-_, _≤_}
 use mathlib.Core.Path.{sym, _∙_, ap}
 use native.Mathlib.Omega.{arith}
 use lib.Dec.{leb}
-use Rattle.moves.proofs.Counting.{Counts, counts-begun, counts-on, counts-over, counts-past}
+use Rattle.moves.proofs.Needing.{Counts, counts-begun, counts-on, counts-over, counts-past}
 use Rattle.moves.proofs.room.has_room.Statement.{statement}
 use Rattle.moves.proofs.room.has_room.Tie as tie
 

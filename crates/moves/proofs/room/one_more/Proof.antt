@@ -2,7 +2,7 @@
 use Prim.Native.Nat.{_/_}
 use mathlib.Core.Path.{sym, _∙_}
 use native.Mathlib.Omega.{arith}
-use Rattle.moves.proofs.Counting.{quotient-times, one-more-data, one-more-fat, one-more-difat}
+use Rattle.moves.proofs.Needing.{quotient-times, one-more-data, one-more-fat, one-more-difat}
 use borrow.Author.Needs.{needs}
 use Rattle.moves.proofs.room.one_more.Statement.{statement}
 use Rattle.moves.proofs.room.one_more.Tie as tie

@@ -1,6 +1,6 @@
 -- A number of whole sectors is itself, and any other one more.
 use native.Mathlib.Omega.{arith}
-use Rattle.moves.proofs.Counting.{quotient-times, ceil-whole, ceil-part}
+use Rattle.moves.proofs.Needing.{quotient-times, ceil-whole, ceil-part}
 use borrow.Author.Needs.{needs}
 use Rattle.moves.proofs.room.sectors_for.Statement.{statement}
 use Rattle.moves.proofs.room.sectors_for.Tie as tie

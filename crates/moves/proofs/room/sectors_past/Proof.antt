@@ -1,7 +1,7 @@
 -- What stays within the chain asks for none; else what is over is rounded up.
 use mathlib.Core.Path.{_∙_}
 use native.Mathlib.Omega.{arith}
-use Rattle.moves.proofs.Counting.{write-within, write-over}
+use Rattle.moves.proofs.Needing.{write-within, write-over}
 use borrow.Author.Needs.{needs}
 use Rattle.moves.proofs.room.sectors_past.Statement.{statement}
 use Rattle.moves.proofs.room.sectors_past.Tie as tie
