@@ -17,9 +17,10 @@ use Rattle.header.specs.declared.Header.{Header}
 use Rattle.header.specs.declared.Validation.{Validation}
 use Rattle.sectors.specs.Sectors.{Holds}
 use Rattle.fat.specs.Lists.{most, sectorsIn, roomOf}
-use Rattle.judge.specs.Judge.{firstWrong, forgivenFat, fatRows}
+use Rattle.judge.specs.Judge.{firstWrong, forgivenFat, marksOf, fatRows}
 use Rattle.judge.proofs.Rows.{Number, is-0, is-15, is-16, is-17, first-number}
 use Rattle.alloc.specs.Opening.{Tables, firstRows, tableRows, openRows, openNo, judgedFat, openFat, openTables, shortest}
+use Rattle.alloc.specs.Opened.{padded}
 use Rattle.alloc.proofs.First.{early-held}
 use Rattle.alloc.proofs.Filled.{front-padded}
 use Rattle.agree.specs.Agrees.{Agrees}
@@ -100,3 +101,12 @@ agreed-chained m img used sectors free h t a =
       room = room-own _ _ _ _ _ (ap (λ (x : Header). lengthOf (x .version)) (sym (a .header))) (sym (a .count)) (holds-room _ _ _ (known .0) (known .1));
       holds = holds-own _ _ _ _ _ (ap (λ (x : Header). lengthOf (x .version)) (sym (a .header))) (sym (a .count) ∙ sym count) (known .0);
     }
+
+-- its marks are those of the FAT, and zeros after them
+pub agreed-marks : (m : Validation) (img : List ℕ) (used sectors free : ℕ) (h : Header) (t : Tables) → Agrees m img used sectors free h t
+    → t .marks ≡ padded (marksOf sectors (take sectors (t .fat))) (length (t .marks))
+unfolding openTables
+agreed-marks m img used sectors free h t a =
+    let long : length (openFat (lengthOf (headerOf img .version)) img (headerOf img) (sectorsIn (lengthOf (headerOf img .version)) used)) ≡ sectorsIn (lengthOf (headerOf img .version)) used = length-open m img used (shortest t) (a .opens) in
+    let front : take sectors (t .fat) ≡ openFat (lengthOf (headerOf img .version)) img (headerOf img) (sectorsIn (lengthOf (headerOf img .version)) used) = front-padded _ (t .fat) sectors (length (t .fat)) (a .tables .fat) (long ∙ sym (a .count)) in
+    a .tables .marks ∙ ap (λ (xs : List ℕ). padded xs (length (t .marks))) (ap (λ (n : ℕ). marksOf n (openFat (lengthOf (headerOf img .version)) img (headerOf img) (sectorsIn (lengthOf (headerOf img .version)) used))) (sym (a .count)) ∙ ap (marksOf sectors) (sym front))

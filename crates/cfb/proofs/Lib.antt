@@ -5,3 +5,4 @@ pub mod Clearing
 pub mod Facing
 pub mod Given
 pub mod Lying
+pub mod Refusing

@@ -41,11 +41,11 @@ passed-0 _ is-22 a b c = absurd (eqb-false 22 22 c refl)
 
 module _ (s : State) (img : List ℕ) (t : Tables) (room start : ℕ) (z : chainNo s img t room start ≡ 0) where
   -- state and tables agree
-  agreed : agreement (s .mode) img (s .used) (s .sectors) (s .free) (s .header) t ≡ true
+  pub agreed : agreement (s .mode) img (s .used) (s .sectors) (s .free) (s .header) t ≡ true
   unfolding chainNo chainRows agreedRows walkRows distinct fresh
   agreed = not-false _ (given-none (chainRows s img t room start) refl z 1 (omega arith))
 
-  known : Chained (stateLen s) img (t .fat) (s .sectors)
+  pub known : Chained (stateLen s) img (t .fat) (s .sectors)
   known = agreed-chained _ img _ _ _ _ t (agrees-exactly (s .mode) img (s .used) (s .sectors) (s .free) (s .header) t .0 agreed)
 
   -- the walk is not refused

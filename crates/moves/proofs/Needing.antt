@@ -12,7 +12,7 @@ use Rattle.lists.proofs.Cases.{true-or, same-or, below-or}
 use Rattle.sectors.specs.Sectors.{perSector}
 use Rattle.fat.specs.Lists.{ceil}
 use Rattle.fat.proofs.Listing.{ceil-enough}
-use Rattle.moves.specs.Change.{writeMore}
+use Rattle.moves.specs.Change.{resizeMore, writeMore}
 use Rattle.moves.specs.Disk.{needsDifat, afterFat, oneMore, countAfter}
 
 -- q whole parts of b, and less than one: rounded up
@@ -130,3 +130,12 @@ counts-over S n more room count i g h =
 -- more than there is room for
 pub counts-past : (S n more room : ℕ) → n ≤ room → room - n < more → false ≡ leb (countAfter S n more) room
 counts-past S n more room h l = sym (lt-leb (countAfter S n more) room (omega (arith, count-least S n more)))
+
+-- a length that a chain has sectors for asks for none, and any other for what is over
+pub resize-within : (S count bytes need : ℕ) → need ≡ ceil bytes S → need ≤ count → 0 ≡ resizeMore S count bytes
+unfolding resizeMore
+resize-within S count bytes need e l = omega (arith, e)
+
+pub resize-over : (S count bytes need : ℕ) → need ≡ ceil bytes S → need - count ≡ resizeMore S count bytes
+unfolding resizeMore
+resize-over S count bytes need e = ap (λ (n : ℕ). n - count) e
