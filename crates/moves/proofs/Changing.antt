@@ -1,28 +1,29 @@
 -- The laws of a chain resized and written. Assumes nothing.
-use Prim.Native.Nat.{ℕ, suc, _+_, _-_, _*_, _≤_, _<_}
+use Prim.Native.Nat.{ℕ, _+_, _-_, _*_, _≤_, _<_}
 use mathlib.Core.Path.{_≡_, refl, _∙_, sym, ap}
-use mathlib.Core.List.{List}
-use mathlib.Core.Logic.{_⊎_, ⊎-elim, _≢_}
+use mathlib.Core.List.{List, []}
+use mathlib.Core.Logic.{⊎-elim}
 use native.Mathlib.Omega.{arith}
-use native.Mathlib.Nat.{mul-comm, add-mul, one-mul, mul-le-mul-left, mul-le-mul-right}
+use native.Mathlib.Nat.{mul-comm, add-mul, mul-le-mul-left, mul-le-mul-right}
 use borrow.Author.Tests.{lt-ltb, le-ltb}
 use lib.ListN.{length, getD, take}
 use lib.Seq.{getD-take, length-take-le}
 use Rattle.lists.proofs.Cases.{below-or}
-use Rattle.sectors.specs.Sectors.{startOf}
 use Rattle.sectors.proofs.Laws.{sector-within}
 use Rattle.fat.specs.Lists.{most, ceil}
 use Rattle.fat.proofs.Listing.{ceil-enough}
 use Rattle.chain.specs.Bytes.{Lies}
 use Rattle.chain.specs.Stores.{writeBytes, zeroTail, Writable}
-use Rattle.chain.proofs.Stored.{write-length}
+use Rattle.chain.proofs.Stored.{write-length, write-none}
 use Rattle.chain.proofs.Zeroed.{zero-length}
 use Rattle.moves.specs.Hand.{Hand, Chain, extend}
 use Rattle.moves.specs.Fits.{FitsChain, FitsMore}
 use Rattle.moves.specs.Change.{shrink, withImage, idsOf, resizeMore, resized, writeMore, written, Apart, FitsShrink, FitsResize, FitsWrite}
-use Rattle.moves.proofs.Shrinking.{shrink-fits, shrink-count, shrink-ids}
+use Rattle.moves.proofs.Needing.{write-within}
+use Rattle.moves.proofs.Shrinking.{shrink-fits, shrink-count, shrink-ids, shrink-long}
 use Rattle.moves.proofs.Staying.{extend-apart}
-use Rattle.moves.proofs.Extending.{chainOf, extend-fits, extend-count}
+use Rattle.moves.proofs.Linking.{ChainLong}
+use Rattle.moves.proofs.Extending.{chainOf, extend-none, extend-fits, extend-count, extend-long}
 
 -- numbers of a chain in hand are small
 module _ (S R : ℕ) (c : Chain) (f : FitsChain S R c) where
@@ -36,12 +37,12 @@ module _ (S R : ℕ) (c : Chain) (f : FitsChain S R c) where
   chain-bytes-small =
       omega (arith, mul-le-mul-right (c .count) (f .fits .disk .short), mul-le-mul-left 65536 chain-few, mul-le-mul-left 65536 (f .fits .disk .few))
 
-  pub chain-place : c .count ≤ length (c .ids)
-  chain-place = omega (arith, chain-few, f .ids-long)
+  pub chain-room : c .count ≤ length (c .ids)
+  chain-room = omega (arith, chain-few, f .ids-long)
 
   chain-listed : length (idsOf c) ≡ c .count
   unfolding idsOf
-  chain-listed = length-take-le (c .count) (c .ids) chain-place
+  chain-listed = length-take-le (c .count) (c .ids) chain-room
 
   chain-id : (j : ℕ) → j < c .count → getD (idsOf c) j 0 ≡ getD (c .ids) j 0
   unfolding idsOf
@@ -104,6 +105,23 @@ module _ (S R : ℕ) (c : Chain) (f : FitsChain S R c) where
         few = f .few;
       }
 
+pub with-long : (c e : Chain) (img : List ℕ) → ChainLong c e → length img ≡ length (e .hand .disk .image) → ChainLong c (withImage e img)
+unfolding withImage
+with-long c e img l h =
+    record {
+      hand = record {
+        disk = record {
+          image-same = h ∙ l .hand .disk .image-same;
+          fat-same = l .hand .disk .fat-same;
+          fats-same = l .hand .disk .fats-same;
+          difats-same = l .hand .disk .difats-same;
+        };
+        frees-same = l .hand .frees-same;
+        marks-same = l .hand .marks-same;
+      };
+      ids-same = l .ids-same;
+    }
+
 pub with-count : (c : Chain) (img : List ℕ) → withImage c img .count ≡ c .count
 unfolding withImage
 with-count c img = refl
@@ -138,28 +156,37 @@ module _ (S R len : ℕ) (c : Chain) (f : FitsResize S R len c) where
   pub resize-fits : FitsChain S R c
   resize-fits = f .fits .fits
 
-  resize-some : 1 ≤ S
-  resize-some = omega (arith, f .fits .fits .fits .disk .header)
-
   -- by the sectors that it asks for more, or by those that it keeps
   pub resize-grow : (need : ℕ) → need ≡ ceil len S → FitsMore S R (need - c .count) c
   unfolding resizeMore
   resize-grow need e = rw e (f .fits)
 
-  pub resize-shrink : (need : ℕ) → need ≡ ceil len S → need ≤ c .count → FitsShrink S R need c
-  resize-shrink need e h = record { fits = f .fits .fits; within = h }
+  pub resize-shrink : (need : ℕ) → need ≤ c .count → FitsShrink S R need c
+  resize-shrink need h = record { fits = f .fits .fits; within = h }
 
-  -- what is left is a chain in hand, of as many sectors as the new length asks for
+  -- what is left is a chain in hand, of which everything is as long, and of as many sectors as the new length asks for
+  zeroed-long : (g : ceil len S ≤ c .count)
+      → length (zeroTail S (shrink S c (ceil len S) .hand .disk .image) (idsOf (shrink S c (ceil len S))) len) ≡ length (shrink S c (ceil len S) .hand .disk .image)
+  zeroed-long g =
+      zero-length S (shrink S c (ceil len S) .hand .disk .image) (idsOf (shrink S c (ceil len S))) len
+      (shrunk-writable S R len c (resize-shrink (ceil len S) g) (f .apart))
+
   pub resized-fits : FitsChain S R (resized S c len)
   resized-fits =
       ⊎-elim
       (λ (l : c .count < ceil len S). rw (resized-more S c len l) (extend-fits S R (resizeMore S (c .count) len) c (f .fits)))
       (λ (g : ceil len S ≤ c .count).
-      let k : FitsShrink S R (ceil len S) c = resize-shrink (ceil len S) refl g in
       rw (resized-fewer S c len g)
-      (with-fits S R (shrink S c (ceil len S)) (shrink-fits S R (ceil len S) c k)
-      (zeroTail S (shrink S c (ceil len S) .hand .disk .image) (idsOf (shrink S c (ceil len S))) len)
-      (zero-length S (shrink S c (ceil len S) .hand .disk .image) (idsOf (shrink S c (ceil len S))) len (shrunk-writable S R len c k (f .apart)))))
+      (with-fits S R (shrink S c (ceil len S)) (shrink-fits S R (ceil len S) c (resize-shrink (ceil len S) g)) _ (zeroed-long g)))
+      (below-or (c .count) (ceil len S))
+
+  pub resized-long : ChainLong c (resized S c len)
+  resized-long =
+      ⊎-elim
+      (λ (l : c .count < ceil len S). rw (resized-more S c len l) (extend-long S R (resizeMore S (c .count) len) c (f .fits)))
+      (λ (g : ceil len S ≤ c .count).
+      rw (resized-fewer S c len g)
+      (with-long c (shrink S c (ceil len S)) _ (shrink-long S R (ceil len S) c (resize-shrink (ceil len S) g)) (zeroed-long g)))
       (below-or (c .count) (ceil len S))
 
   pub resized-count : resized S c len .count ≡ ceil len S
@@ -167,7 +194,7 @@ module _ (S R len : ℕ) (c : Chain) (f : FitsResize S R len c) where
   resized-count =
       ⊎-elim
       (λ (l : c .count < ceil len S). rw (resized-more S c len l) (extend-count S c (resizeMore S (c .count) len) ∙ omega arith))
-      (λ (g : ceil len S ≤ c .count). rw (resized-fewer S c len g, with-count) (shrink-count S R (ceil len S) c (resize-shrink (ceil len S) refl g)))
+      (λ (g : ceil len S ≤ c .count). rw (resized-fewer S c len g, with-count) (shrink-count S R (ceil len S) c (resize-shrink (ceil len S) g)))
       (below-or (c .count) (ceil len S))
 
   -- what the code does, by its parts: the chain grows,
@@ -185,19 +212,19 @@ module _ (S R len : ℕ) (c : Chain) (f : FitsResize S R len c) where
   -- or it is cut, and can be zeroed from its new length on,
   module _ (need : ℕ) (e : need ≡ ceil len S) (h : need ≤ c .count) (after : Chain) (x : after ≡ shrink S c need) where
     cut-fits : FitsChain S R after
-    cut-fits = rw x (shrink-fits S R need c (resize-shrink need e h))
+    cut-fits = rw x (shrink-fits S R need c (resize-shrink need h))
 
     cut-count : after .count ≡ need
-    cut-count = ap (λ (k : Chain). k .count) x ∙ shrink-count S R need c (resize-shrink need e h)
+    cut-count = ap (λ (k : Chain). k .count) x ∙ shrink-count S R need c (resize-shrink need h)
 
     pub cut-listed : need ≡ length (take need (after .ids))
-    cut-listed = sym (length-take-le need (after .ids) (omega (arith, cut-count, chain-place S R after cut-fits)))
+    cut-listed = sym (length-take-le need (after .ids) (omega (arith, cut-count, chain-room S R after cut-fits)))
 
     pub cut-zeroable : Writable S (length (after .hand .disk .image)) (take need (after .ids)) len 0
     unfolding idsOf
     cut-zeroable =
         let w : Writable S (length (shrink S c (ceil len S) .hand .disk .image)) (idsOf (shrink S c (ceil len S))) len 0
-        = shrunk-writable S R len c (resize-shrink (ceil len S) refl (rw e at h)) (f .apart) in
+        = shrunk-writable S R len c (resize-shrink (ceil len S) (rw e at h)) (f .apart) in
         let y : after ≡ shrink S c (ceil len S) = x ∙ ap (shrink S c) e in
         let v : Writable S (length (after .hand .disk .image)) (take (after .count) (after .ids)) len 0 = rw y w in
         rw cut-count at v
@@ -248,7 +275,7 @@ module _ (S R offset bytes : ℕ) (c : Chain) (f : FitsWrite S R offset bytes c)
       grown-small = omega (arith, grown-count, chain-small S R after grown-fits)
 
       pub grown-place : c .count + more ≤ length (after .ids)
-      grown-place = omega (arith, grown-count, chain-place S R after grown-fits)
+      grown-place = omega (arith, grown-count, chain-room S R after grown-fits)
 
       pub grown-listed : c .count + more ≡ length (take (c .count + more) (after .ids))
       grown-listed = sym (length-take-le (c .count + more) (after .ids) grown-place)
@@ -280,18 +307,43 @@ unfolding withImage
 written-of S R offset buf c f more m n image fat fats difats frees free marks ids x img z =
     written-grown S R offset (length buf) c f more m (chainOf n image fat fats difats frees free marks ids (c .count + more)) x buf refl img z
 
--- what is left is a chain in hand, of as many sectors as there were and are asked for
-pub written-fits : (S R offset : ℕ) (buf : List ℕ) (c : Chain) → FitsWrite S R offset (length buf) c → FitsChain S R (written S c offset buf)
-unfolding written idsOf
-written-fits S R offset buf c f =
-    let more : ℕ = writeMore S (c .count) offset (length buf) in
-    let g : FitsChain S R (extend S c more) = extend-fits S R more c (f .fits) in
-    let w : Writable S (length (extend S c more .hand .disk .image)) (idsOf (extend S c more)) offset (length buf)
-    = chain-writable S R (extend S c more) g (extend-apart S R more c (f .fits) (f .apart)) offset (length buf)
-    (rw (extend-count S c more) (write-covers S R offset (length buf) c f)) in
-    with-fits S R (extend S c more) g (writeBytes S (extend S c more .hand .disk .image) (idsOf (extend S c more)) offset buf)
-    (write-length S (extend S c more .hand .disk .image) (idsOf (extend S c more)) offset buf w)
+-- what is left is a chain in hand, of which everything is as long, and of as many sectors as there were and are asked for
+module _ (S R offset : ℕ) (buf : List ℕ) (c : Chain) (f : FitsWrite S R offset (length buf) c) where
+  abbrev wide : Chain
+  wide = extend S c (writeMore S (c .count) offset (length buf))
+
+  wide-fits : FitsChain S R wide
+  wide-fits = extend-fits S R (writeMore S (c .count) offset (length buf)) c (f .fits)
+
+  wide-long : length (writeBytes S (wide .hand .disk .image) (idsOf wide) offset buf) ≡ length (wide .hand .disk .image)
+  wide-long =
+      write-length S (wide .hand .disk .image) (idsOf wide) offset buf
+      (chain-writable S R wide wide-fits (extend-apart S R (writeMore S (c .count) offset (length buf)) c (f .fits) (f .apart)) offset (length buf)
+      (rw (extend-count S c (writeMore S (c .count) offset (length buf))) (write-covers S R offset (length buf) c f)))
+
+  pub written-fits : FitsChain S R (written S c offset buf)
+  unfolding written
+  written-fits = with-fits S R wide wide-fits (writeBytes S (wide .hand .disk .image) (idsOf wide) offset buf) wide-long
+
+  pub written-long : ChainLong c (written S c offset buf)
+  unfolding written
+  written-long =
+      with-long c wide (writeBytes S (wide .hand .disk .image) (idsOf wide) offset buf) (extend-long S R (writeMore S (c .count) offset (length buf)) c (f .fits)) wide-long
 
 pub written-count : (S : ℕ) (c : Chain) (offset : ℕ) (buf : List ℕ) → written S c offset buf .count ≡ c .count + writeMore S (c .count) offset (length buf)
 unfolding written withImage
 written-count S c offset buf = extend-count S c (writeMore S (c .count) offset (length buf))
+
+-- document 01, Write: an empty buffer does nothing
+with-own : (c : Chain) → withImage c (c .hand .disk .image) ≡ c
+unfolding withImage
+with-own c = refl
+
+pub written-none : (S R offset : ℕ) (c : Chain) → FitsWrite S R offset 0 c → written S c offset [] ≡ c
+unfolding written
+written-none S R offset c f =
+    let g : FitsChain S R c = f .fits .fits in
+    let e : writeMore S (c .count) offset 0 ≡ 0 = sym (write-within S (c .count) offset 0 (omega (arith, g .fits .disk .header)) (f .seeks) (omega arith)) in
+    ap (λ (k : Chain). withImage k (writeBytes S (k .hand .disk .image) (idsOf k) offset [])) (ap (extend S c) e ∙ extend-none S c)
+    ∙ ap (withImage c) (write-none S (c .hand .disk .image) (idsOf c) offset (chain-writable S R c g (f .apart) offset 0 (omega (arith, f .seeks))))
+    ∙ with-own c

@@ -1,10 +1,10 @@
 -- The laws of sectors that are listed once: a chain extended lists none twice. Assumes nothing.
-use Prim.Native.Nat.{ℕ, zero, suc, _+_, _-_, _≤_, _<_}
+use Prim.Native.Nat.{ℕ, zero, suc, _-_, _≤_, _<_}
 use mathlib.Core.Path.{_≡_, refl, _∙_, sym, ap}
 use mathlib.Core.List.{List}
 use mathlib.Core.Logic.{_⊎_, inl, inr, ⊎-elim, _≢_}
 use native.Mathlib.Omega.{arith}
-use lib.ListN.{length, getD, set}
+use lib.ListN.{length, getD}
 use lib.Seq.{getD-set-same, getD-set-other}
 use Rattle.lists.proofs.Cases.{same-or}
 use Rattle.moves.specs.Disk.{Disk, ready}
@@ -13,7 +13,7 @@ use Rattle.moves.specs.Fits.{FitsChain, FitsMore}
 use Rattle.moves.specs.Change.{Apart}
 use Rattle.moves.proofs.Needing.{one-more-between}
 use Rattle.moves.proofs.Fitting.{ready-sectors}
-use Rattle.moves.proofs.Taking.{take-none, take-one, id-new, id-last}
+use Rattle.moves.proofs.Taking.{take-one, id-new, id-last}
 use Rattle.moves.proofs.Linking.{linked-none, linked-last, one-count, one-free, more-place, one-fits}
 use Rattle.moves.proofs.Extending.{extend-none, extend-more}
 

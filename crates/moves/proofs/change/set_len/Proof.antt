@@ -58,7 +58,7 @@ returns c =
     resized-grown _ _ _ _ (begun (k .before) .pre) _ (k .before .sectors-for .ensures) (k .if1 .taken) _ _ (g .extend-by .ensures)
 
 shrink-requires : tie.Need-shrink-requires
-shrink-requires c κs = let k = fewer c in (_, resize-shrink _ _ _ _ (begun (k .before) .pre) _ (k .before .sectors-for .ensures) (k .if1 .left))
+shrink-requires c κs = let k = fewer c in (_, resize-shrink _ _ _ _ (begun (k .before) .pre) _ (k .if1 .left))
 
 slice-reshare-prefix-zero-tail : tie.Need-slice-reshare-prefix-zero-tail
 slice-reshare-prefix-zero-tail c = search needs
