@@ -3,7 +3,7 @@ use Prim.Native.Nat.{ℕ, _+_, _-_, _*_, _≤_, _<_}
 use mathlib.Core.Path.{_≡_}
 use mathlib.Core.Logic.{_≢_}
 use mathlib.Core.List.{List}
-use lib.Dec.{eqb, ltb}
+use lib.Dec.{ltb}
 use lib.ListN.{length, getD, take}
 use Rattle.lists.specs.Lists.{choose}
 use Rattle.consts.specs.Consts.{endOfChain}
@@ -11,12 +11,12 @@ use Rattle.fat.specs.Lists.{ceil}
 use Rattle.alloc.specs.Opened.{padded}
 use Rattle.chain.specs.Stores.{writeBytes, zeroTail}
 use Rattle.moves.specs.Fits.{FitsChain, FitsMore}
-use Rattle.moves.specs.Hand.{Hand, Chain, point, freeRun, extend}
+use Rattle.moves.specs.Hand.{Hand, Chain, linked, freeRun, extend}
 
 -- the last of the first m sectors ends the chain
 unfoldable pub cut : ℕ → Hand → List ℕ → ℕ → Hand
-unfolding point
-cut S h ids m = choose (eqb m 0) h (point S h (getD ids (m - 1) 0) endOfChain)
+unfolding linked
+cut S h ids m = linked S h ids m endOfChain
 
 -- document 01, Resize: the tail behind m sectors is freed, in chain order
 unfoldable pub shrink : ℕ → Chain → ℕ → Chain
