@@ -31,11 +31,11 @@ told-walked : (k count start bytes : ℕ) → toldBy (answerFrom (walkedAs k cou
 unfolding answerFrom walkedAs told
 told-walked k count start bytes = ⊎-elim (λ (z : k ≡ 0). rw (eq-eqb k 0 z)) (λ (n : k ≢ 0). rw (ne-eqb k 0 n)) (same-or k 0)
 
-told-refused : (k ids start bytes : ℕ) → k ≢ 0 → k ∷ [] ≡ told k ids start bytes
+pub told-refused : (k ids start bytes : ℕ) → k ≢ 0 → k ∷ [] ≡ told k ids start bytes
 unfolding told
 told-refused k ids start bytes n = rw (ne-eqb k 0 n)
 
-told-done : (k ids start bytes : ℕ) → k ≡ 0 → 0 ∷ ids ∷ start ∷ bytes ∷ [] ≡ told k ids start bytes
+pub told-done : (k ids start bytes : ℕ) → k ≡ 0 → 0 ∷ ids ∷ start ∷ bytes ∷ [] ≡ told k ids start bytes
 unfolding told
 told-done k ids start bytes z = rw (eq-eqb k 0 z)
 
@@ -49,7 +49,7 @@ unfolding answerFrom
 answer-refused w k start e = rw e
 
 -- what a walk's answer tells of the number
-walked-refused : (k count j : ℕ) → Refused j ≡ walkedAs k count → (k ≢ 0) × (j ≡ k)
+pub walked-refused : (k count j : ℕ) → Refused j ≡ walkedAs k count → (k ≢ 0) × (j ≡ k)
 unfolding walkedAs
 walked-refused k count j e =
     ⊎-elim
@@ -57,7 +57,7 @@ walked-refused k count j e =
     (λ (n : k ≢ 0). let same : Refused j ≡ Refused k = rw (ne-eqb k 0 n) at e in (n, cc))
     (same-or k 0)
 
-walked-listed : (k count c : ℕ) → Listed c ≡ walkedAs k count → (k ≡ 0) × (c ≡ count)
+pub walked-listed : (k count c : ℕ) → Listed c ≡ walkedAs k count → (k ≡ 0) × (c ≡ count)
 unfolding walkedAs
 walked-listed k count c e =
     ⊎-elim

@@ -1,6 +1,7 @@
 pub mod Agreed
 pub mod Answering
 pub mod Calling
+pub mod Changing
 pub mod Clearing
 pub mod Ending
 pub mod Facing

@@ -1,5 +1,5 @@
 -- A change that nothing before 23 stands against has a chain in hand that fits, of sectors listed once. Assumes nothing.
-use Prim.Native.Nat.{ℕ, zero, suc, _+_, _-_, _≤_, _<_, min}
+use Prim.Native.Nat.{ℕ, zero, suc, _+_, _-_, _*_, _≤_, _<_, min}
 use mathlib.Core.Path.{_≡_, refl, sym, _∙_, ap}
 use mathlib.Core.Bool.{Bool, true, false}
 use mathlib.Core.List.{List, [], _∷_}
@@ -26,11 +26,15 @@ use Rattle.chain.proofs.Chains.{walk-sectors, lists-exactly}
 use Rattle.moves.specs.Hand.{Chain}
 use Rattle.moves.specs.Fits.{FitsHand, FitsChain}
 use Rattle.moves.specs.Change.{Apart}
+use Rattle.moves.proofs.Changing.{chain-bytes-small}
 use Rattle.cfb.specs.Calls.{stateLen, walked, agreedRows, walkRows, chainRows, chainNo, chainIds}
 use Rattle.cfb.specs.Causes.{Agreed}
-use Rattle.cfb.specs.Changes.{changeRows, changeNo, chainFrom}
+use Rattle.chain.specs.declared.Walked.{Walked}
+use Rattle.chain.specs.declared.Walked.the-variants.{Listed}
+use Rattle.cfb.specs.Changes.{changeRows, changeNo, chainFrom, ChangeListed}
 use Rattle.cfb.specs.declared.State.{State}
 use Rattle.cfb.proofs.Agreed.{Chained}
+use Rattle.cfb.proofs.Answering.{walked-listed}
 use Rattle.cfb.proofs.Fitted.{agreed-fits, agreed-frees}
 use Rattle.cfb.proofs.Lying.{agreed, known, lists-chain}
 use Rattle.cfb.proofs.Refusing.{padded-front, refused-early, refused-mode, refused-walk}
@@ -177,3 +181,17 @@ module _ (s : State) (img : List ℕ) (t : Tables) (room start : ℕ) (z : chang
     frees-once = frees-once;
     ids-frees = λ i j hi hj e. ids-frees i j hi hj (sym (padded-front ids room i hi) ∙ e);
   }
+
+-- the sectors of a state whose chain is listed for a change are no more than there is room for
+pub listed-room : (s : State) (img : List ℕ) (t : Tables) (ids : List ℕ) (start : ℕ) (w : Walked) (ids' : List ℕ) → ChangeListed s img t ids start w ids' → (c : ℕ) → w ≡ Listed c
+    → s .sectors ≤ roomOf (stateLen s) (length img)
+unfolding chainFrom
+listed-room s img t ids start w ids' l c e = ready-fits s img t (length ids) start (walked-listed _ _ c (sym e ∙ l .answer) .0) .fits .disk .inside
+
+-- and the bytes of the chain are few
+pub listed-small : (s : State) (img : List ℕ) (t : Tables) (ids : List ℕ) (start : ℕ) (w : Walked) (ids' : List ℕ) → ChangeListed s img t ids start w ids' → (c : ℕ) → w ≡ Listed c
+    → {S : ℕ} → S ≡ stateLen s → S * c ≤ 1073741824
+unfolding chainFrom
+listed-small s img t ids start w ids' l c e q =
+    let told = walked-listed _ _ c (sym e ∙ l .answer) in
+    rw (q, told .1) (chain-bytes-small _ _ _ (ready-fits s img t (length ids) start (told .0)))
