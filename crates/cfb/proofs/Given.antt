@@ -41,7 +41,7 @@ module _ (s : State) (img : List ℕ) (t : Tables) (room start : ℕ) where
   number-of k e = eq-eqb _ k (ap outcomeNo e)
 
   -- each cause makes the test of its row hold
-  chain-tested : (k : ℕ) → ChainCause s img t room start k → testOf (chainRows s img t room start) k ≡ true
+  pub chain-tested : (k : ℕ) → ChainCause s img t room start k → testOf (chainRows s img t room start) k ≡ true
   unfolding testOf chainRows agreedRows walkRows walked
   chain-tested k (ChainCause.short h) = lt-ltb _ _ h
   chain-tested k (ChainCause.apart n) = ap not (refuted _ (λ e. n (same .0 e)))
@@ -54,7 +54,7 @@ module _ (s : State) (img : List ℕ) (t : Tables) (room start : ℕ) where
   refused-as k n e = outcome-refuses _ k n (eqb-true _ k e)
 
   -- the first test that holds has its cause
-  chain-told : Explained (ChainCause s img t room start) (chainRows s img t room start)
+  pub chain-told : Explained (ChainCause s img t room start) (chainRows s img t room start)
   unfolding chainRows agreedRows walkRows walked
   chain-told =
       (λ e. ChainCause.short (ltb-true _ _ e)) ▸ λ f1.

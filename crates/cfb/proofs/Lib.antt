@@ -4,6 +4,7 @@ pub mod Calling
 pub mod Changing
 pub mod Clearing
 pub mod Ending
+pub mod Exactly
 pub mod Facing
 pub mod Fitted
 pub mod Given

@@ -1,13 +1,19 @@
--- Document 01's causes for refusing a call that reads a chain, as plain statements. Assumes nothing.
-use Prim.Native.Nat.{ℕ, _*_, _≤_, _<_, min}
-use mathlib.Core.List.{List}
+-- Document 01's causes for refusing a call on a chain, as plain statements. Assumes nothing.
+use Prim.Native.Nat.{ℕ, suc, _-_, _*_, _≤_, _<_, min}
+use mathlib.Core.Path.{_≡_}
+use mathlib.Core.List.{List, [], _∷_}
 use mathlib.Core.Logic.{_≢_}
-use lib.ListN.{length, take}
+use lib.Dec.{eqb}
+use lib.ListN.{length, getD, take}
+use Rattle.lists.specs.Lists.{choose}
 use Rattle.consts.specs.Consts.{endOfChain}
+use Rattle.header.specs.declared.Validation.the-variants.{Permissive}
 use Rattle.fat.specs.Lists.{roomOf}
 use Rattle.alloc.specs.Opening.{Tables, shortest}
 use Rattle.agree.specs.Agrees.{Agrees}
 use Rattle.chain.specs.Steps.{Breaks, Returns}
+use Rattle.moves.specs.Change.{resizeMore, writeMore}
+use Rattle.moves.specs.Disk.{countAfter}
 use Rattle.cfb.specs.Calls.{stateLen, chainIds}
 use Rattle.cfb.specs.declared.State.{State}
 
@@ -36,3 +42,37 @@ pub data ChainCause (s : State) (img : List ℕ) (t : Tables) (room start : ℕ)
 pub data ReadCause (s : State) (img : List ℕ) (t : Tables) (room start offset : ℕ) : ℕ → Type 0 where
   chain : (k : ℕ) → ChainCause s img t room start k → ReadCause s img t room start offset k
   beyond : stateLen s * length (chainIds s t start) < offset → ReadCause s img t room start offset 23
+
+-- the place of a number in a list, from 1 on, or 0 where it has none
+unfoldable pub placeOf : List ℕ → ℕ → ℕ
+placeOf [] k = 0
+placeOf (x ∷ xs) k = choose (eqb x k) 1 (choose (eqb (placeOf xs k) 0) 0 (suc (placeOf xs k)))
+
+-- document 01's table of the calls on a chain: in this order
+unfoldable pub order : ℕ → ℕ
+unfolding placeOf
+order k = placeOf (11 ∷ 19 ∷ 26 ∷ 20 ∷ 21 ∷ 22 ∷ 25 ∷ 23 ∷ 24 ∷ []) k
+
+-- document 01's rows 11, 19, 26, 20 to 22 and 25: what stands against any change of a chain
+pub data ChangeCause (s : State) (img : List ℕ) (t : Tables) (room start : ℕ) : ℕ → Type 0 where
+  -- 11, 19, 20, 21, 22: what stands against opening it
+  chain : (k : ℕ) → ChainCause s img t room start k → ChangeCause s img t room start k
+  -- 26: the state is permissive
+  forgiving : s .mode ≡ Permissive → ChangeCause s img t room start 26
+  -- 25: the start is not END, and some entry equals it
+  inside : (i : ℕ) → i < s .sectors → getD (stateFat s t) i 0 ≡ start → start ≢ endOfChain → ChangeCause s img t room start 25
+
+-- document 01, 24: with so many sectors more in the chain there would be more than R
+abbrev pub Overfull : State → List ℕ → ℕ → Type 0
+Overfull s img more = roomOf (stateLen s) (length img) < countAfter (stateLen s) (s .sectors) (more - s .free)
+
+-- document 01's rows of a resize: those of a change, and 24
+pub data ResizeCause (s : State) (img : List ℕ) (t : Tables) (room start len : ℕ) : ℕ → Type 0 where
+  change : (k : ℕ) → ChangeCause s img t room start k → ResizeCause s img t room start len k
+  full : Overfull s img (resizeMore (stateLen s) (length (chainIds s t start)) len) → ResizeCause s img t room start len 24
+
+-- document 01's rows of a write: those of a change, 23, an offset above the chain's length, and 24
+pub data WriteCause (s : State) (img : List ℕ) (t : Tables) (room start offset bytes : ℕ) : ℕ → Type 0 where
+  change : (k : ℕ) → ChangeCause s img t room start k → WriteCause s img t room start offset bytes k
+  beyond : stateLen s * length (chainIds s t start) < offset → WriteCause s img t room start offset bytes 23
+  full : Overfull s img (writeMore (stateLen s) (length (chainIds s t start)) offset bytes) → WriteCause s img t room start offset bytes 24
