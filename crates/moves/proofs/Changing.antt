@@ -249,8 +249,8 @@ resized-shrunk S R len c f need e h n image fat fats difats frees free marks ids
 
 -- a chain that can be written
 module _ (S R offset bytes : ℕ) (c : Chain) (f : FitsWrite S R offset bytes c) where
-  pub write-past : (2 ≤ S) × (offset ≤ S * c .count) × (S * c .count < 18446744073709551616)
-  write-past = (omega (arith, f .fits .fits .fits .disk .header), f .seeks, omega (arith, chain-bytes-small S R c (f .fits .fits)))
+  pub write-past : (2 ≤ S) × (S ≤ 65536) × (offset ≤ S * c .count) × (S * c .count < 18446744073709551616)
+  write-past = (omega (arith, f .fits .fits .fits .disk .header), f .fits .fits .fits .disk .short, f .seeks, omega (arith, chain-bytes-small S R c (f .fits .fits)))
 
   -- with the sectors that it asks for it covers what is written
   pub write-covers : offset + bytes ≤ S * (c .count + writeMore S (c .count) offset bytes)

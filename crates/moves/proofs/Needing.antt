@@ -15,27 +15,21 @@ use Rattle.fat.proofs.Listing.{ceil-enough}
 use Rattle.moves.specs.Change.{resizeMore, writeMore}
 use Rattle.moves.specs.Disk.{needsDifat, afterFat, oneMore, countAfter}
 
--- q whole parts of b, and less than one: rounded up
-ceil-parts : (q b r : ℕ) → 1 ≤ b → r < b → (q * b + r) / b ≡ q
-ceil-parts q b r h l = mul-add-div-right {m = b} h q r ∙ rw (div-eq-of-lt l, add-zero)
-
 -- a quotient by m or more, m times
 pub quotient-times : (a b m : ℕ) → m ≤ b → a / b * m ≤ a
 quotient-times a b m h = omega (arith, mul-le-mul-left (a / b) h, div-mul-le-self a b)
 
--- rounding up a number of whole parts, and one that is none
-pub ceil-whole : (a b : ℕ) → 1 ≤ b → a % b ≡ 0 → a / b ≡ ceil a b
+-- rounding up: whole parts, and what is left of them rounded up by itself
+pub ceil-left : (a b : ℕ) → 1 ≤ b → a / b + (a - a / b * b + (b - 1)) / b ≡ ceil a b
 unfolding ceil
-ceil-whole a b h e =
-    let whole : a + (b - 1) ≡ a / b * b + (b - 1) = omega (arith, div-add-mod a b, mul-comm b (a / b)) in
-    sym (rw whole (ceil-parts (a / b) b (b - 1) h (omega arith)))
+ceil-left a b h =
+    let left : a - a / b * b ≡ a % b = omega (arith, div-add-mod a b, mul-comm b (a / b)) in
+    let all : a + (b - 1) ≡ a / b * b + (a % b + (b - 1)) = omega (arith, div-add-mod a b, mul-comm b (a / b)) in
+    sym (rw (all, left) (mul-add-div-right {m = b} h (a / b) (a % b + (b - 1))))
 
-pub ceil-part : (a b : ℕ) → 1 ≤ b → a % b ≢ 0 → a / b + 1 ≡ ceil a b
-unfolding ceil
-ceil-part a b h d =
-    let some : 1 ≤ a % b = omega arith in
-    let whole : a + (b - 1) ≡ (a / b + 1) * b + (a % b - 1) = omega (arith, div-add-mod a b, mul-comm b (a / b), add-mul (a / b) 1 b, one-mul b) in
-    sym (rw whole (ceil-parts (a / b + 1) b (a % b - 1) h (omega (arith, mod-lt a h))))
+-- what is left is less than a part
+pub left-less : (a b : ℕ) → 1 ≤ b → a - a / b * b < b
+left-less a b h = omega (arith, div-add-mod a b, mul-comm b (a / b), mod-lt a h)
 
 -- what c whole parts hold asks for no more than c, and what is over is rounded up by itself
 pub ceil-within : (a b c : ℕ) → 1 ≤ b → a ≤ b * c → ceil a b ≤ c

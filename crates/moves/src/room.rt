@@ -9,22 +9,20 @@ ghost use Rattle.fat.specs.Lists.{most, ceil as ceilOf};
 ghost use Rattle.moves.specs.Change.{resizeMore, writeMore};
 ghost use Rattle.moves.specs.Disk.{oneMore, countAfter};
 
-// How many sectors so many bytes ask for.
+// How many sectors so many bytes ask for: whole ones, and one more for what is left. S - 1 is added to what is left alone, so that no sum can wrap.
 pub fn sectors_for(s: usize, bytes: u64) -> usize
-    requires { ⌜ 2 ≤ s ⌝ }
+    requires { ⌜ (2 ≤ s) × (s ≤ 65536) ⌝ }
     ensures { λ r. ⌜ r ≡ ceilOf bytes s ⌝ }
 {
     let each = s as u64;
     let whole = bytes / each;
-    if bytes % each == 0 {
-        return whole as usize;
-    }
-    (whole + 1) as usize
+    let left = bytes - whole * each;
+    (whole + (left + (each - 1)) / each) as usize
 }
 
 // How many sectors so many bytes ask for more than a chain of count has.
 pub fn sectors_over(s: usize, count: usize, bytes: u64) -> usize
-    requires { ⌜ 2 ≤ s ⌝ }
+    requires { ⌜ (2 ≤ s) × (s ≤ 65536) ⌝ }
     ensures { λ r. ⌜ r ≡ resizeMore s count bytes ⌝ }
 {
     let need = sectors_for(s, bytes);
@@ -36,7 +34,7 @@ pub fn sectors_over(s: usize, count: usize, bytes: u64) -> usize
 
 // How many sectors a write of so many bytes from an offset within a chain of count sectors on asks for more.
 pub fn sectors_past(s: usize, count: usize, offset: usize, bytes: usize) -> usize
-    requires { ⌜ (2 ≤ s) × (offset ≤ s * count) × (s * count < 18446744073709551616) ⌝ }
+    requires { ⌜ (2 ≤ s) × (s ≤ 65536) × (offset ≤ s * count) × (s * count < 18446744073709551616) ⌝ }
     ensures { λ r. ⌜ r ≡ writeMore s count offset bytes ⌝ }
 {
     let rest = s * count - offset;

@@ -14,7 +14,7 @@ use Rattle.cfb.specs.Calls.{stateLen}
 use Rattle.cfb.specs.Changes.{noRoom, chainFrom}
 use Rattle.cfb.specs.declared.State.{State}
 use Rattle.cfb.proofs.Changing.{resizes-early, changes-refused, changes-made, listed-chain, resize-full, resize-zero, resize-ready, resize-own, resized-own, made-lies}
-use Rattle.cfb.proofs.Fitted.{length-least}
+use Rattle.cfb.proofs.Fitted.{length-least, length-most}
 use Rattle.cfb.proofs.Ready.{listed-room}
 use borrow.Author.Needs.{needs}
 use Rattle.cfb.proofs.State.resize.Statement.{statement}
@@ -100,7 +100,8 @@ sector-len-requires : tie.Need-sector-len-requires
 sector-len-requires c κs = search needs
 
 sectors-over-requires : tie.Need-sectors-over-requires
-sectors-over-requires c κs = omega (arith, length-is c, length-least (state (listed c) .header .version))
+sectors-over-requires c κs =
+    let v = state (listed c) .header .version in (omega (arith, length-is c, length-least v), omega (arith, length-is c, length-most v))
 
 no-room-requires : tie.Need-no-room-requires
 no-room-requires c κs = let k = c .before in listed-room _ _ (tables (listed k)) _ _ _ _ (listed k .change-of .ensures) _ (walked-is k)

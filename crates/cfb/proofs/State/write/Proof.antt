@@ -15,7 +15,7 @@ use Rattle.cfb.specs.Changes.{noRoom, chainFrom}
 use Rattle.cfb.specs.declared.State.{State}
 use Rattle.cfb.proofs.Changing.{writes-early, changes-refused, changes-made, listed-chain, write-past, write-full, write-zero, write-ready, write-own, written-own, made-lies}
 use Rattle.cfb.proofs.Lying.{past-own, within-own}
-use Rattle.cfb.proofs.Fitted.{length-least}
+use Rattle.cfb.proofs.Fitted.{length-least, length-most}
 use Rattle.cfb.proofs.Ready.{listed-room, listed-small}
 use borrow.Author.Needs.{needs}
 use Rattle.cfb.proofs.State.write.Statement.{statement}
@@ -140,7 +140,7 @@ returns-2 c =
 sectors-past-requires : tie.Need-sectors-past-requires
 sectors-past-requires c κs =
     let k = c .before in
-    (omega (arith, length-is k, length-least (state (listed k) .header .version)), c .if1 .left, omega (arith, listed-small _ _ (tables (listed k)) _ _ _ _ (listed k .change-of .ensures) _ (walked-is k) (length-is k)))
+    (omega (arith, length-is k, length-least (state (listed k) .header .version)), omega (arith, length-is k, length-most (state (listed k) .header .version)), c .if1 .left, omega (arith, listed-small _ _ (tables (listed k)) _ _ _ _ (listed k .change-of .ensures) _ (walked-is k) (length-is k)))
 
 no-room-requires : tie.Need-no-room-requires
 no-room-requires c κs = let k = c .before .before in listed-room _ _ (tables (listed k)) _ _ _ _ (listed k .change-of .ensures) _ (walked-is k)

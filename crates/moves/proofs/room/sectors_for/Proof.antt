@@ -1,6 +1,8 @@
--- A number of whole sectors is itself, and any other one more.
+-- What is left of the whole sectors is less than one, so rounding it up alone wraps nowhere; the sum is the length rounded up, and that is no more than the length.
 use native.Mathlib.Omega.{arith}
-use Rattle.moves.proofs.Needing.{quotient-times, ceil-whole, ceil-part}
+use native.Mathlib.Nat.{div-mul-le-self}
+use Rattle.fat.proofs.Listing.{ceil-few}
+use Rattle.moves.proofs.Needing.{ceil-left, left-less}
 use borrow.Author.Needs.{needs}
 use Rattle.moves.proofs.room.sectors_for.Statement.{statement}
 use Rattle.moves.proofs.room.sectors_for.Tie as tie
@@ -8,17 +10,28 @@ use Rattle.moves.proofs.room.sectors_for.Tie as tie
 div-whole : tie.Need-div-whole
 div-whole c = search needs
 
-rem-if1 : tie.Need-rem-if1
-rem-if1 c = search needs
+mul-left : tie.Need-mul-left
+mul-left c = omega (arith, div-mul-le-self (c .args .bytes) (c .args .s))
 
-returns : tie.Need-returns
-returns c = ceil-whole _ _ (omega (arith, c .before .pre)) (c .if1 .taken)
+sub-left : tie.Need-sub-left
+sub-left c = omega (arith, div-mul-le-self (c .args .bytes) (c .args .s))
+
+sub-result : tie.Need-sub-result
+sub-result c = search needs
 
 add-result : tie.Need-add-result
-add-result c = let g = c .before in omega (arith, g .pre, quotient-times (g .args .bytes) (g .args .s) 2 (g .pre))
+add-result c = omega (arith, c .pre, left-less (c .args .bytes) (c .args .s) (omega (arith, c .pre .0)))
 
-returns-2 : tie.Need-returns-2
-returns-2 c = ceil-part _ _ (omega (arith, c .before .pre)) (c .if1 .left)
+div-result : tie.Need-div-result
+div-result c = search needs
+
+add-result-2 : tie.Need-add-result-2
+add-result-2 c = omega (arith, ceil-left (c .args .bytes) (c .args .s) (omega (arith, c .pre .0)), ceil-few (c .args .bytes) (c .args .s) (omega (arith, c .pre .0)))
+
+returns : tie.Need-returns
+returns c = ceil-left _ _ (omega (arith, c .pre .0))
 
 pub sectors-for-spec : {M : Type 1} → statement M
-sectors-for-spec = tie.close (tie.spec div-whole rem-if1 returns add-result returns-2)
+sectors-for-spec =
+    tie.close
+    (tie.spec div-whole mul-left sub-left sub-result add-result div-result add-result-2 returns)

@@ -13,7 +13,7 @@ sub-rest : tie.Need-sub-rest
 sub-rest c = search needs
 
 returns : tie.Need-returns
-returns c = let g = c .before .pre in write-within _ _ _ _ (omega (arith, g .0)) (g .1) (c .if1 .taken)
+returns c = let g = c .before .pre in write-within _ _ _ _ (omega (arith, g .0)) (g .2) (c .if1 .taken)
 
 sub-sectors-for : tie.Need-sub-sectors-for
 sub-sectors-for c = search needs
@@ -22,7 +22,7 @@ sectors-for-requires : tie.Need-sectors-for-requires
 sectors-for-requires c κs = search needs
 
 returns-2 : tie.Need-returns-2
-returns-2 c = let g = c .before .before .pre in c .sectors-for .ensures ∙ write-over _ _ _ _ (omega (arith, g .0)) (g .1) (c .before .if1 .left)
+returns-2 c = let g = c .before .before .pre in c .sectors-for .ensures ∙ write-over _ _ _ _ (omega (arith, g .0)) (g .2) (c .before .if1 .left)
 
 pub sectors-past-spec : {M : Type 1} → statement M
 sectors-past-spec =
