@@ -46,8 +46,8 @@ pub fn put_place(buf: &mut [u8], p: usize, v: u32)
     requires { ⌜ p < 109 ⌝ }
     ensures { λ _. ⌜ now (buf .exit) ≡ splice (now (buf .entry)) (offsetOf entriesAt + 4 * p) (digits 4 v) ⌝ }
 {
-    let f = row(ENTRIES);
-    let at = f.at;
+    let first = row(ENTRIES);
+    let at = first.at;
     words::put32(buf, at + 4 * p, v);
 }
 
