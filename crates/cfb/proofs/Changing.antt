@@ -17,19 +17,17 @@ use Rattle.alloc.specs.Opening.{Tables}
 use Rattle.alloc.specs.Opened.{padded}
 use Rattle.chain.specs.declared.Walked.{Walked}
 use Rattle.chain.specs.declared.Walked.the-variants.{Listed, Refused}
-use Rattle.moves.specs.Disk.{countAfter}
 use Rattle.moves.specs.Hand.{Chain}
 use Rattle.moves.specs.Fits.{FitsChain}
 use Rattle.moves.proofs.Changing.{chain-room}
 use Rattle.moves.specs.Change.{resizeMore, writeMore, resized, written, FitsResize, FitsWrite}
 use Rattle.moves.specs.declared.change.Changed.{Changed}
-use Rattle.cfb.specs.Calls.{stateLen, agreedRows, walkRows, chainIds, idsLeft, toldBy, told}
+use Rattle.cfb.specs.Calls.{stateLen, agreedRows, walkRows, chainIds, idsLeft, toldBy}
 use Rattle.cfb.specs.Changes.{changeRows, changeNo, noRoom, resizeRows, resizeNo, writeRows, writeNo, chainFrom, stateFrom, tablesIn, startIn, Changes, ChainResizes, ChainWrites, ChangeListed, doneWith}
-use Rattle.cfb.specs.Listed.{walkedAs, answerFrom}
+use Rattle.cfb.specs.Listed.{answerFrom}
 use Rattle.cfb.specs.declared.State.{State}
 use Rattle.cfb.specs.declared.Called.{Called}
 use Rattle.cfb.specs.declared.Answer.{Answer}
-use Rattle.cfb.specs.declared.Answer.the-variants.{Done}
 use Rattle.cfb.specs.declared.Answer.the-variants as answers
 use Rattle.cfb.proofs.Answering.{told-refused, told-done, walked-refused, walked-listed}
 use Rattle.cfb.proofs.Fitted.{handIn}

@@ -1,13 +1,8 @@
 -- A list with zeros from a place on. Assumes nothing.
-use Prim.Native.Nat.{ℕ, _+_, _-_, _≤_, _<_}
-use mathlib.Core.Path.{_≡_, sym, _∙_, ap}
-use mathlib.Core.List.{List, [], append-nil}
-use native.Mathlib.Omega.{arith}
-use borrow.Rule.Slice.PartMut.{putMid}
-use lib.ListN.{length, take, drop, replicate, length-replicate, length-drop, drop-of-length-le}
-use lib.Seq.{take-all, length-take-le}
-use Rattle.lists.specs.Lists.{splice}
-use Rattle.lists.proofs.Splice.{putMid-splice}
+use Prim.Native.Nat.{ℕ, _-_}
+use mathlib.Core.Path.{_≡_, _∙_}
+use mathlib.Core.List.{List}
+use lib.ListN.{length, take}
 use Rattle.alloc.specs.Opened.{padded}
 use Rattle.chain.specs.declared.Walked.{Walked}
 use Rattle.chain.specs.declared.Walked.the-variants.{Listed, Refused}

@@ -1,12 +1,12 @@
 -- What a change ends with: whether there is room, where the chain starts, and the state. Assumes nothing.
 use Prim.Native.Nat.{ℕ, _+_, _-_, _*_, _≤_, _<_}
-use mathlib.Core.Path.{_≡_, refl, sym, _∙_, ap}
-use mathlib.Core.Bool.{Bool, true, false, not}
+use mathlib.Core.Path.{_≡_, sym, _∙_, ap}
+use mathlib.Core.Bool.{Bool, false, not}
 use mathlib.Core.List.{List}
 use mathlib.Core.Logic.{⊎-elim, _≢_}
 use native.Mathlib.Omega.{arith}
 use borrow.Author.Tests.{eq-eqb, ne-eqb, lt-ltb, le-ltb, le-leb, lt-leb}
-use lib.Dec.{eqb, ltb, leb}
+use lib.Dec.{ltb, leb}
 use lib.ListN.{getD}
 use Rattle.lists.specs.Lists.{choose}
 use Rattle.lists.proofs.Cases.{below-or}
@@ -16,11 +16,10 @@ use Rattle.header.specs.declared.Header.{Header}
 use Rattle.fat.specs.Lists.{roomOf}
 use Rattle.moves.specs.Disk.{countAfter}
 use Rattle.moves.specs.declared.change.Changed.{Changed}
-use Rattle.moves.proofs.Needing.{count-none}
+use Rattle.moves.proofs.Linking.{count-none}
 use Rattle.cfb.specs.Calls.{stateLen}
 use Rattle.cfb.specs.Changes.{noRoom, startIn, doneWith}
 use Rattle.cfb.specs.declared.State.{State}
-use Rattle.cfb.specs.declared.Called.{Called}
 use Rattle.cfb.specs.declared.Answer.the-variants.{Done}
 
 -- what is free needs no room

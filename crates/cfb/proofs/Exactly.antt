@@ -1,14 +1,13 @@
 -- Each number of the calls that change is given exactly when document 01 says, in the order of its table. Assumes nothing.
 use Prim.Native.Nat.{ℕ, _*_, _≤_, _<_}
-use mathlib.Core.Path.{_≡_, refl, sym, _∙_, ap}
-use mathlib.Core.Bool.{Bool, true, false, not}
-use mathlib.Core.List.{List, [], _∷_, _++_}
-use mathlib.Core.Logic.{_⊎_, _≢_, _↔_}
+use mathlib.Core.Path.{_≡_, refl, ap}
+use mathlib.Core.Bool.{true, not}
+use mathlib.Core.List.{List, [], _∷_}
+use mathlib.Core.Logic.{_≢_, _↔_}
 use native.Mathlib.Omega.{arith}
-use borrow.Author.Tests.{lt-ltb, ltb-true, eqb-true, eq-eqb, ne-eqb, eqb-false, not-true, not-false}
+use borrow.Author.Tests.{lt-ltb, ltb-true, ne-eqb, eqb-false, not-true}
 use lib.Dec.{eqb, ltb}
 use lib.ListN.{length, getD}
-use Rattle.lists.specs.Lists.{both}
 use Rattle.lists.specs.Rows.{Row, row, testOf, ascend, Explained, Judged}
 use Rattle.lists.proofs.Cases.{both-left, both-right, both-true}
 use Rattle.lists.proofs.Exactly.{_▸_, exactly, accepted, explained-by, explained-append, tested-append}
@@ -20,8 +19,8 @@ use Rattle.judge.specs.Judge.{pointed}
 use Rattle.judge.proofs.Judging.{pointed-by, pointer-of}
 use Rattle.alloc.specs.Opening.{Tables}
 use Rattle.moves.specs.Change.{resizeMore, writeMore}
-use Rattle.cfb.specs.Calls.{stateLen, agreedRows, walkRows, walked, chainRows, chainIds}
-use Rattle.cfb.specs.Causes.{stateFat, ChainCause, placeOf, order, ChangeCause, ResizeCause, WriteCause}
+use Rattle.cfb.specs.Calls.{stateLen, agreedRows, walkRows, chainRows, chainIds}
+use Rattle.cfb.specs.Causes.{stateFat, ChainCause, order, ChangeCause, ResizeCause, WriteCause}
 use Rattle.cfb.specs.Changes.{startPointed, changeRows, noRoom, resizeRows, resizeNo, writeRows, writeNo}
 use Rattle.cfb.specs.declared.State.{State}
 use Rattle.cfb.proofs.Given.{chain-tested, chain-told}

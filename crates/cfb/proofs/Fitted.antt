@@ -1,17 +1,12 @@
 -- What agrees with its image can be changed: every number that a change goes by lies within what is lent. Assumes nothing.
-use Prim.Native.Nat.{ℕ, suc, _+_, _-_, _*_, _/_, _≤_, _<_, min}
-use mathlib.Core.Path.{_≡_, refl, sym, _∙_, ap}
-use mathlib.Core.Bool.{true}
+use Prim.Native.Nat.{ℕ, _+_, _-_, _/_, _≤_, _<_, min}
+use mathlib.Core.Path.{_≡_, sym, _∙_, ap}
 use mathlib.Core.List.{List}
-use mathlib.Core.Logic.{_⊎_, inl, inr, ⊎-elim, _≢_}
 use native.Mathlib.Omega.{arith}
-use native.Mathlib.Nat.{add-mul, one-mul, mul-le-mul-right, div-mul-le-self, le-div-iff-mul-le}
+use native.Mathlib.Nat.{mul-le-mul-right, div-mul-le-self, le-div-iff-mul-le}
 use lib.ListN.{length, getD, take}
 use lib.Seq.{getD-take, length-take-le}
-use Rattle.lists.proofs.Cases.{below-or}
-use Rattle.lists.proofs.Pigeon.{pigeon}
 use Rattle.lists.proofs.Tab.{length-tab}
-use Rattle.consts.specs.Consts.{maxRegular, endOfChain, freeSector}
 use Rattle.header.specs.Fields.{lengthOf}
 use Rattle.header.specs.Read.{headerOf}
 use Rattle.header.specs.declared.Version.{Version}
@@ -27,9 +22,8 @@ use Rattle.alloc.specs.Opening.{Tables, openFat, openTables, openNo, shortest}
 use Rattle.alloc.specs.Opened.{padded}
 use Rattle.agree.specs.Agrees.{FreesOnce, Held, Agrees}
 use Rattle.agree.proofs.Agreeing.{holds-room}
-use Rattle.moves.specs.Disk.{Disk}
-use Rattle.moves.specs.Hand.{Hand, Chain}
-use Rattle.moves.specs.Fits.{Fits, FitsWhole, FitsHand, FitsChain}
+use Rattle.moves.specs.Hand.{Hand}
+use Rattle.moves.specs.Fits.{FitsHand}
 use Rattle.cfb.proofs.Agreed.{held, fats-open, difats-open, agreed-front}
 use Rattle.cfb.proofs.Refusing.{padded-front}
 

@@ -10,11 +10,11 @@ use lib.Dec.{ltb}
 use lib.ListN.{length, getD, take, replicate, length-append, length-replicate, List·getD-eq-default}
 use lib.Seq.{getD-take, length-take-le}
 use Rattle.lists.specs.Lists.{choose}
-use Rattle.lists.specs.Rows.{refusal, distinct, fresh}
+use Rattle.lists.specs.Rows.{distinct, fresh}
 use Rattle.lists.proofs.Cases.{below-or, same-or, true-or}
 use Rattle.lists.proofs.Pigeon.{pigeon}
 use Rattle.lists.proofs.Rows.{given-none}
-use Rattle.consts.specs.Consts.{maxRegular, endOfChain, freeSector}
+use Rattle.consts.specs.Consts.{endOfChain, freeSector}
 use Rattle.header.specs.Fields.{isStrict}
 use Rattle.fat.specs.Lists.{roomOf}
 use Rattle.alloc.specs.Opening.{Tables, shortest}
@@ -23,11 +23,10 @@ use Rattle.agree.specs.Agrees.{FreesOnce}
 use Rattle.agree.proofs.Meaning.{agrees-exactly}
 use Rattle.chain.specs.Steps.{Sectors, Linked}
 use Rattle.chain.proofs.Chains.{walk-sectors, lists-exactly}
-use Rattle.moves.specs.Hand.{Chain}
 use Rattle.moves.specs.Fits.{FitsHand, FitsChain}
 use Rattle.moves.specs.Change.{Apart}
 use Rattle.moves.proofs.Changing.{chain-bytes-small}
-use Rattle.cfb.specs.Calls.{stateLen, walked, agreedRows, walkRows, chainRows, chainNo, chainIds}
+use Rattle.cfb.specs.Calls.{stateLen, agreedRows, walkRows, chainNo, chainIds}
 use Rattle.cfb.specs.Causes.{Agreed}
 use Rattle.chain.specs.declared.Walked.{Walked}
 use Rattle.chain.specs.declared.Walked.the-variants.{Listed}

@@ -11,22 +11,19 @@ use lib.ListN.{length, getD, take, replicate, length-replicate, getD-replicate, 
 use lib.Seq.{getD-append-add}
 use Rattle.lists.specs.Lists.{choose, both}
 use Rattle.lists.specs.Rows.{Row, row, refusal, distinct, fresh}
-use Rattle.lists.proofs.Cases.{true-or, same-or, below-or}
+use Rattle.lists.proofs.Cases.{same-or, below-or}
 use Rattle.lists.proofs.Rows.{stop, pass, append-given, append-none}
 use Rattle.lists.proofs.Tab.{length-tab}
 use Rattle.consts.specs.Consts.{maxRegular, endOfChain}
-use Rattle.header.specs.Fields.{lengthOf, isStrict}
-use Rattle.header.specs.Read.{headerOf}
-use Rattle.fat.specs.Lists.{most, sectorsIn, roomOf}
+use Rattle.header.specs.Fields.{isStrict}
+use Rattle.fat.specs.Lists.{roomOf}
 use Rattle.judge.specs.Judge.{pointed, marksOf}
 use Rattle.judge.proofs.Judging.{mark-at, markOf}
-use Rattle.alloc.specs.Opening.{Tables, openTables, openFat, shortest}
+use Rattle.alloc.specs.Opening.{Tables, openTables, shortest}
 use Rattle.alloc.specs.Opened.{padded}
-use Rattle.alloc.proofs.Filled.{front-padded}
 use Rattle.agree.specs.Agree.{agreement}
-use Rattle.agree.specs.Agrees.{Agrees}
 use Rattle.agree.proofs.Meaning.{agrees-exactly}
-use Rattle.chain.specs.Walk.{Outcome, lists, refuses, walkOf}
+use Rattle.chain.specs.Walk.{lists, refuses}
 use Rattle.chain.proofs.Walking.{walk-past}
 use Rattle.chain.specs.declared.Walked.{Walked}
 use Rattle.chain.specs.declared.Walked.the-variants.{Listed, Refused}

@@ -13,7 +13,6 @@ ghost use Prim.Native.Nat.{_+_, _*_, _≤_, _<_};
 ghost use lib.Dec.{eqb};
 ghost use lib.ListN.{length, getD, replicate};
 ghost use Rattle.fat.specs.Lists.{roomOf};
-ghost use Rattle.header.specs.Read.{headerOf};
 ghost use Rattle.cfb.specs.Calls.{stateLen};
 ghost use Rattle.cfb.specs.Listed.{walkedNo};
 ghost use Rattle.cfb.specs.declared.Answer.the-variants.{Refused};

@@ -1,10 +1,10 @@
 -- How many sectors a change needs: the laws of rounding up, and of the sectors that there are after more are added. Assumes nothing.
-use Prim.Native.Nat.{ℕ, zero, suc, _+_, _-_, _*_, _/_, _%_, _≤_, _<_}
-use mathlib.Core.Path.{_≡_, refl, _∙_, sym, ap}
+use Prim.Native.Nat.{ℕ, suc, _+_, _-_, _*_, _/_, _%_, _≤_, _<_}
+use mathlib.Core.Path.{_≡_, _∙_, sym, ap}
 use mathlib.Core.Bool.{Bool, true, false}
 use mathlib.Core.Logic.{_⊎_, inl, inr, ⊎-elim, _≢_}
 use native.Mathlib.Omega.{arith}
-use native.Mathlib.Nat.{add-zero, sub-zero, add-mul, one-mul, mul-comm, mul-le-mul-left, mul-le-mul-right, div-mul-le-self, mul-add-div-right, div-eq-of-lt, div-add-mod, mod-lt}
+use native.Mathlib.Nat.{sub-zero, add-mul, one-mul, mul-comm, mul-le-mul-left, mul-le-mul-right, div-mul-le-self, mul-add-div-right, div-add-mod, mod-lt}
 use borrow.Author.Tests.{eq-eqb, ne-eqb, lt-leb}
 use lib.Dec.{leb}
 use Rattle.lists.specs.Lists.{choose}
@@ -13,6 +13,8 @@ use Rattle.sectors.specs.Sectors.{perSector}
 use Rattle.fat.specs.Lists.{ceil}
 use Rattle.fat.proofs.Listing.{ceil-enough}
 use Rattle.moves.specs.Change.{resizeMore, writeMore}
+use Rattle.moves.proofs.Fitting.{count-grows, count-more}
+use Rattle.moves.proofs.Linking.{count-none}
 use Rattle.moves.specs.Disk.{needsDifat, afterFat, oneMore, countAfter}
 
 -- a quotient by m or more, m times
@@ -81,20 +83,6 @@ one-more-between S n = at (same-or (n % perSector S) 0) (true-or (needsDifat S (
     at (inl z) (inl t) = (omega (arith, one-more-difat S n z t), omega (arith, one-more-difat S n z t))
     at (inl z) (inr f) = (omega (arith, one-more-fat S n z f), omega (arith, one-more-fat S n z f))
 
--- c more are at least c
-pub count-least : (S n c : ℕ) → n + c ≤ countAfter S n c
-unfolding countAfter
-count-least S n zero = omega arith
-count-least S n (suc c) = omega (arith, one-more-between S n .0, count-least S (oneMore S n) c)
-
-pub count-none : (S n : ℕ) → countAfter S n 0 ≡ n
-unfolding countAfter
-count-none S n = refl
-
-pub count-one : (S n c : ℕ) → countAfter S n (suc c) ≡ countAfter S (oneMore S n) c
-unfolding countAfter
-count-one S n c = refl
-
 -- where the loop of `has_room` stands: i of the sectors are counted, and what is left from here is the whole
 pub record Counts (S n more room count i : ℕ) : Type 0 where
   pub far : i ≤ more
@@ -113,7 +101,7 @@ counts-on S n more room count i next g l e =
       bounded = omega (arith, one-more-between S count .1, g .bounded);
       left =
           let step : more - i ≡ suc (more - (i + 1)) = omega arith in
-          g .left ∙ ap (countAfter S count) step ∙ count-one S count (more - (i + 1)) ∙ ap (λ (m : ℕ). countAfter S m (more - (i + 1))) (sym e);
+          g .left ∙ ap (countAfter S count) step ∙ count-more S count (more - (i + 1)) ∙ ap (λ (m : ℕ). countAfter S m (more - (i + 1))) (sym e);
     }
 
 pub counts-over : (S n more room count i : ℕ) → Counts S n more room count i → more ≤ i → countAfter S n more ≡ count
@@ -123,7 +111,7 @@ counts-over S n more room count i g h =
 
 -- more than there is room for
 pub counts-past : (S n more room : ℕ) → n ≤ room → room - n < more → false ≡ leb (countAfter S n more) room
-counts-past S n more room h l = sym (lt-leb (countAfter S n more) room (omega (arith, count-least S n more)))
+counts-past S n more room h l = sym (lt-leb (countAfter S n more) room (omega (arith, count-grows S n more)))
 
 -- a length that a chain has sectors for asks for none, and any other for what is over
 pub resize-within : (S count bytes need : ℕ) → need ≡ ceil bytes S → need ≤ count → 0 ≡ resizeMore S count bytes

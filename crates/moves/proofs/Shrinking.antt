@@ -1,8 +1,8 @@
 -- The laws of a chain cut and its tail freed. Assumes nothing.
 use Prim.Native.Nat.{ℕ, _+_, _-_, _≤_, _<_}
-use mathlib.Core.Path.{_≡_, refl, _∙_, sym, ap}
+use mathlib.Core.Path.{_≡_, refl, _∙_, ap}
 use mathlib.Core.List.{List}
-use mathlib.Core.Logic.{⊎-elim, _≢_}
+use mathlib.Core.Logic.{⊎-elim}
 use native.Mathlib.Omega.{arith}
 use borrow.Author.Tests.{lt-ltb, le-ltb}
 use lib.ListN.{length, getD, take, replicate, length-append, length-replicate, List·getD-append}
@@ -10,12 +10,12 @@ use lib.Seq.{getD-take, length-take-le, take-at}
 use Rattle.lists.proofs.Cases.{below-or}
 use Rattle.consts.specs.Consts.{endOfChain}
 use Rattle.alloc.specs.Opened.{padded}
-use Rattle.moves.specs.Hand.{Hand, Chain, Points, freeRun}
+use Rattle.moves.specs.Hand.{Hand, Chain, freeRun}
 use Rattle.moves.specs.Fits.{FitsHand, FitsFrees, FitsLast, FitsChain}
 use Rattle.moves.specs.Change.{cut, shrink, idsOf, FitsShrink}
 use Rattle.moves.proofs.Pointing.{handOf, long-none, long-then}
 use Rattle.moves.proofs.Freeing.{free-run-count, free-run-sectors, free-run-long, chain-frees, chain-freed}
-use Rattle.moves.proofs.Linking.{ChainLong, linked-none, linked-points, last-fits, linked-fits, linked-counts, linked-long}
+use Rattle.moves.proofs.Linking.{ChainLong, last-fits, linked-fits, linked-counts, linked-long}
 use Rattle.moves.proofs.Extending.{chainOf}
 
 -- a list that is zero from place m on: it is as long, and what stands before m stays
@@ -34,18 +34,6 @@ padded-at xs m j h l =
 pub padded-front : (xs : List ℕ) (m : ℕ) → m ≤ length xs → take m (padded (take m xs) (length xs)) ≡ take m xs
 unfolding padded
 padded-front xs m h = take-at (take m xs) (replicate (length xs - length (take m xs)) 0) m (length-take-le m xs h)
-
--- a chain of none is not cut, and one of some by its last sector
-pub cut-none : (S n : ℕ) (image fat fats marks ids : List ℕ) (m : ℕ) → m ≡ 0 → (difats frees : List ℕ) (free : ℕ)
-    → handOf n image fat fats difats frees free marks ≡ cut S (handOf n image fat fats difats frees free marks) ids m
-unfolding cut
-cut-none S n image fat fats marks ids m e difats frees free = sym (linked-none S (handOf n image fat fats difats frees free marks) ids m endOfChain e)
-
-pub cut-last : (S n : ℕ) (image fat fats marks ids : List ℕ) (m : ℕ) (image' fat' marks' : List ℕ) → m ≢ 0
-    → Points S n image fat fats marks (getD ids (m - 1) 0) endOfChain image' fat' marks' → (difats frees : List ℕ) (free : ℕ)
-    → handOf n image' fat' fats difats frees free marks' ≡ cut S (handOf n image fat fats difats frees free marks) ids m
-unfolding cut
-cut-last S n image fat fats marks ids m image' fat' marks' = linked-points S n image fat fats marks ids m endOfChain image' fat' marks'
 
 -- a chain that is as long as it has to be, and one that is longer
 pub shrink-none : (S : ℕ) (c : Chain) (m : ℕ) → c .count ≤ m → shrink S c m ≡ c
@@ -73,11 +61,9 @@ module _ (S R m : ℕ) (c : Chain) (f : FitsShrink S R m c) where
   cutOf = cut S (c .hand) (c .ids) m
 
   cut-fits : FitsHand S R cutOf
-  unfolding cut
   cut-fits = linked-fits S (c .hand) (c .ids) m endOfChain R shrink-last (f .fits .fits)
 
   cut-counts : (cutOf .disk .sectors ≡ c .hand .disk .sectors) × (cutOf .free ≡ c .hand .free)
-  unfolding cut
   cut-counts = linked-counts S (c .hand) (c .ids) m endOfChain
 
   cut-chain : FitsChain S R (record { hand = cutOf; ids = c .ids; count = c .count })
@@ -152,7 +138,6 @@ module _ (S R m : ℕ) (c : Chain) (f : FitsShrink S R m c) where
 
   -- everything that is lent stays as long
   pub shrink-long : ChainLong c (shrink S c m)
-  unfolding cut
   shrink-long =
       ⊎-elim
       (λ (l : m < c .count). rw (shrink-some S c m l)

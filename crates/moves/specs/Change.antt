@@ -14,13 +14,12 @@ use Rattle.moves.specs.Fits.{FitsChain, FitsMore}
 use Rattle.moves.specs.Hand.{Hand, Chain, linked, freeRun, extend}
 
 -- the last of the first m sectors ends the chain
-unfoldable pub cut : ℕ → Hand → List ℕ → ℕ → Hand
-unfolding linked
+abbrev pub cut : ℕ → Hand → List ℕ → ℕ → Hand
 cut S h ids m = linked S h ids m endOfChain
 
 -- document 01, Resize: the tail behind m sectors is freed, in chain order
 unfoldable pub shrink : ℕ → Chain → ℕ → Chain
-unfolding cut freeRun padded
+unfolding linked freeRun padded
 shrink S c m =
     choose (ltb m (c .count))
     (record { hand = freeRun S (cut S (c .hand) (c .ids) m) (c .ids) m (c .count - m); ids = padded (take m (c .ids)) (length (c .ids)); count = m })

@@ -1,7 +1,7 @@
 // What a change makes of a listed chain (document 01, Write and Resize). Room is known before, so nothing fails halfway.
 use crate::hand::extend_by;
 use crate::hand::free_run;
-use crate::hand::point;
+use crate::hand::link_last;
 use crate::room::sectors_for;
 use crate::room::sectors_past;
 use chain::stores::write as write_bytes;
@@ -12,8 +12,7 @@ ghost use Prim.Native.Nat.{ℕ, _+_, _-_};
 ghost use lib.ListN.{length, take};
 ghost use Rattle.alloc.specs.Opened.{padded};
 ghost use Rattle.fat.specs.Lists.{roomOf};
-ghost use Rattle.moves.specs.Change.{cut as cutBehind, shrink as shrunk, resized, written, FitsShrink, FitsResize, FitsWrite};
-ghost use Rattle.moves.specs.Fits.{FitsLast};
+ghost use Rattle.moves.specs.Change.{shrink as shrunk, resized, written, FitsShrink, FitsResize, FitsWrite};
 
 // What a change leaves: how many sectors there are, how many of them are FREE, and how many the chain has.
 pub struct Changed {
@@ -29,27 +28,6 @@ pub fn zero_from(xs: &mut [u32], from: usize)
     if from < xs.len() {
         words::fill32(&mut xs[from..], 0);
     }
-}
-
-// Makes the last of the first m ids the chain's last one.
-fn cut(
-    image: &mut [u8],
-    s: usize,
-    n: usize,
-    fat: &mut [u32],
-    fats: &[u32],
-    marks: &mut [u8],
-    ids: &[u32],
-    m: usize,
-)
-    requires { ⌜ FitsLast s n (length (now image)) (length (now fat)) (now fats) (length (now marks)) (now ids) m ⌝ }
-    ensures { λ _. ⌜ ((difats frees : List ℕ) (free : ℕ) → record { disk = record { image = now (image .exit); fat = now (fat .exit); fats = now (fats .exit); difats = difats; sectors = n }; frees = frees; free = free; marks = now (marks .exit) } ≡ cutBehind s (record { disk = record { image = now (image .entry); fat = now (fat .entry); fats = now (fats .entry); difats = difats; sectors = n }; frees = frees; free = free; marks = now (marks .entry) }) (now (ids .entry)) m) ⌝ }
-{
-    if m == 0 {
-        return;
-    }
-    let last = ids[m - 1] as usize;
-    point(image, s, n, fat, fats, marks, last, consts::END_OF_CHAIN);
 }
 
 // Ends the chain of count ids behind its first m, and frees the rest in chain order.
@@ -72,7 +50,7 @@ fn shrink(
     if count <= m {
         return;
     }
-    cut(image, s, n, fat, fats, marks, ids, m);
+    link_last(image, s, n, fat, fats, marks, ids, m, consts::END_OF_CHAIN);
     free_run(
         image,
         s,

@@ -9,7 +9,7 @@ use sectors::init::SectorInit;
 use sectors::init::init_at;
 use sectors::init::put_at;
 ghost use mathlib.Core.Path.{_≡_};
-ghost use Prim.Native.Nat.{ℕ, suc, _+_, _-_, _*_, _/_, _≤_, _<_};
+ghost use Prim.Native.Nat.{suc, _+_, _-_, _*_, _/_, _≤_, _<_};
 ghost use lib.ListN.{length, getD, set};
 ghost use Rattle.lists.specs.Lists.{splice};
 ghost use Rattle.words.specs.Words.{digits};

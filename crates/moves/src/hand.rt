@@ -132,7 +132,7 @@ pub fn free_run(
 }
 
 // Makes the last of count ids point at sector id; a chain of none begins with it.
-fn link_last(
+pub(crate) fn link_last(
     image: &mut [u8],
     s: usize,
     n: usize,

@@ -1,10 +1,8 @@
 // What a change needs, known before its first store (document 01, 24), for every length and offset, with no sum that can wrap.
 use crate::disk::needs_difat;
 ghost use mathlib.Core.Path.{_≡_};
-ghost use Prim.Native.Nat.{suc, _*_, _≤_, _<_};
-ghost use mathlib.Core.Bool.{Bool};
+ghost use Prim.Native.Nat.{_*_, _≤_, _<_};
 ghost use lib.Dec.{leb};
-ghost use Rattle.sectors.specs.Sectors.{perSector};
 ghost use Rattle.fat.specs.Lists.{most, ceil as ceilOf};
 ghost use Rattle.moves.specs.Change.{resizeMore, writeMore};
 ghost use Rattle.moves.specs.Disk.{oneMore, countAfter};

@@ -5,7 +5,7 @@ use mathlib.Core.List.{List, [], _∷_, _++_}
 use native.Mathlib.Omega.{arith}
 use native.Mathlib.Nat.{zero-add}
 use borrow.Rule.Slice.PartMut.{putMid}
-use lib.ListN.{length, getD, take, drop, replicate, length-append, length-replicate, getD-replicate}
+use lib.ListN.{length, take, drop, replicate, length-append, length-replicate, getD-replicate}
 use Rattle.lists.specs.Lists.{splice, part}
 use Rattle.lists.proofs.Splice.{length-part, length-splice, is-splice, splice-append, splice-whole, splice-part, putMid-splice}
 use Rattle.words.specs.Words.{digits}

@@ -1,6 +1,6 @@
 // Stores in sectors of an image, each lent as a slice of its own: an entry, and what a new sector holds (document 01, "Bytes of a compound file").
 ghost use mathlib.Core.Path.{_≡_};
-ghost use Prim.Native.Nat.{_+_, _*_, _≤_, _<_};
+ghost use Prim.Native.Nat.{_+_, _*_, _≤_};
 ghost use lib.ListN.{length};
 ghost use Rattle.lists.specs.Lists.{splice};
 ghost use Rattle.words.specs.Words.{digits};

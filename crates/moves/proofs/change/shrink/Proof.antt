@@ -11,10 +11,10 @@ use Rattle.moves.proofs.change.shrink.Tie as tie
 abbrev begun : tie.Else1 → tie.Start
 begun c = c .before .before .before .before .before .before .before
 
-abbrev longer : tie.After-cut → tie.Else1
+abbrev longer : tie.After-link-last → tie.Else1
 longer c = c .before .before .before .before .before
 
-abbrev ended : tie.After-free-run-arg5 → tie.After-cut
+abbrev ended : tie.After-free-run-arg5 → tie.After-link-last
 ended c = c .before .before .before .before .before .before .before .before .before .before .before
 
 abbrev freed : tie.After-slice-known13 → tie.After-free-run
@@ -23,8 +23,8 @@ freed c = c .before .before .before .before .before .before .before .before .bef
 returns : tie.Need-returns
 returns c = shrunk-none _ _ _ _ _ _ _ _ _ _ _ _ (c .if1 .taken) (c .before .before .before .before .before .before .before .pre)
 
-cut-requires : tie.Need-cut-requires
-cut-requires c κs =
+link-last-requires : tie.Need-link-last-requires
+link-last-requires c κs =
     let p = begun (c .before .before .before .before) .pre in
     shrink-cut _ _ _ _ (p .1)
 
@@ -34,7 +34,7 @@ sub-free-run c = search needs
 free-run-requires : tie.Need-free-run-requires
 free-run-requires c κs =
     let k = ended c in
-    shrunk-frees _ _ _ _ _ _ _ _ _ _ _ _ _ _ _ _ (ap (λ (l : ℕ). roomOf (begun (longer k) .args .s) l) (k .cut .kept .0)) (begun (longer k) .pre) (k .cut .ensures)
+    shrunk-frees _ _ _ _ _ _ _ _ _ _ _ _ _ _ _ _ (ap (λ (l : ℕ). roomOf (begun (longer k) .args .s) l) (k .link-last .kept .0)) (begun (longer k) .pre) (k .link-last .ensures)
 
 zero-from-requires : tie.Need-zero-from-requires
 zero-from-requires c κs = search needs
@@ -58,14 +58,14 @@ returns-2 : tie.Need-returns-2
 returns-2 c =
     let r = freed c in
     let k = ended (r .before) in
-    shrunk-some _ _ _ _ _ _ _ _ _ _ _ _ _ _ _ _ _ _ _ (longer k .if1 .left) (k .cut .ensures) (r .free-run .ensures) (c .before .before .zero-from .ensures)
+    shrunk-some _ _ _ _ _ _ _ _ _ _ _ _ _ _ _ _ _ _ _ (longer k .if1 .left) (k .link-last .ensures) (r .free-run .ensures) (c .before .before .zero-from .ensures)
 
 pub shrink-spec : {M : Type 1} → statement M
 shrink-spec =
     tie.close
     (tie.spec
     returns
-    cut-requires
+    link-last-requires
     sub-free-run
     free-run-requires
     zero-from-requires

@@ -1,6 +1,6 @@
 -- The invariant: what is left to count from here is the whole. Where fewer sectors are left than are asked for, nothing is counted.
-use Prim.Native.Nat.{ℕ, _-_, _≤_}
-use mathlib.Core.Path.{sym, _∙_, ap}
+use Prim.Native.Nat.{ℕ, _-_}
+use mathlib.Core.Path.{sym, ap}
 use native.Mathlib.Omega.{arith}
 use lib.Dec.{leb}
 use Rattle.moves.proofs.Needing.{Counts, counts-begun, counts-on, counts-over, counts-past}
