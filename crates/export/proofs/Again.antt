@@ -1,14 +1,16 @@
 -- Nothing is lost at the library's edge: a header and a state come back from their words, and an item from its numbers. Assumes nothing.
 use Prim.Native.Nat.{ℕ, suc, _≤_, _<_, _^_}
-use mathlib.Core.Path.{_≡_, refl, sym, ap₂}
+use mathlib.Core.Path.{_≡_, refl, sym, _∙_, ap, ap₂}
 use mathlib.Core.Bool.{Bool, true, false}
 use mathlib.Core.List.{List, [], _∷_}
+use mathlib.Core.Logic.{⊎-elim, _≢_}
 use native.Mathlib.Omega.{arith}
-use borrow.Author.Tests.{le-leb}
+use borrow.Author.Tests.{le-leb, ne-eqb, leb-true}
 use lib.Dec.{eqb, leb}
-use lib.ListN.{length, getD}
-use Rattle.lists.specs.Lists.{choose, Below}
-use Rattle.lists.proofs.Cases.{both-true}
+use lib.ListN.{length, getD, drop, length-drop}
+use lib.Seq.{drop-cons, getD-drop}
+use Rattle.lists.specs.Lists.{choose, both, Below}
+use Rattle.lists.proofs.Cases.{both-true, both-left, both-right, same-or}
 use Rattle.words.proofs.Laws.{le-below}
 use Rattle.consts.specs.Consts.{endOfChain, freeSector}
 use Rattle.consts.specs.declared.Sector.{Sector}
@@ -63,6 +65,57 @@ state-holds s fit = both-true (mode-known (s .mode)) (both-true (version-known (
     version-known : (v : Version) → isVersion (majorOf v) ≡ true
     version-known V3 = refl
     version-known V4 = refl
+
+-- a number that is a version's is that of its version, and one that is a mode's that of its mode
+version-number : (n : ℕ) → isVersion n ≡ true → majorOf (versionOf n) ≡ n
+unfolding isVersion versionOf
+version-number n h =
+    ⊎-elim (λ (e : n ≡ 3). rw e)
+    (λ (three : n ≢ 3). ⊎-elim (λ (e : n ≡ 4). rw e)
+    (λ (four : n ≢ 4).
+    let none : false ≡ true = rw (ne-eqb n 3 three, ne-eqb n 4 four) at h in
+    let z : _≡_ {A = ℕ} 0 1 = cc in
+    absurd (omega arith))
+    (same-or n 4))
+    (same-or n 3)
+
+mode-number : (n : ℕ) → leb n 1 ≡ true → modeNumber (modeOf n) ≡ n
+unfolding modeOf
+mode-number n h =
+    let low : n ≤ 1 = leb-true n 1 h in
+    ⊎-elim (λ (e : n ≡ 0). rw e) (λ (o : n ≢ 0). let e : n ≡ 1 = omega (arith, low, o) in rw e) (same-or n 0)
+
+-- words that hold a header are those of the header that they hold
+header-words-again : (words : List ℕ) → 8 ≤ length words → isVersion (getD words 0 0) ≡ true → wordsOf (headerFrom words) ≡ words
+unfolding wordsOf headerFrom headerWith
+header-words-again words n v =
+    rw (
+      version-number (getD words 0 0) v,
+      ← drop-cons words 7 0 (omega (arith, n)),
+      ← drop-cons words 6 0 (omega (arith, n)),
+      ← drop-cons words 5 0 (omega (arith, n)),
+      ← drop-cons words 4 0 (omega (arith, n)),
+      ← drop-cons words 3 0 (omega (arith, n)),
+      ← drop-cons words 2 0 (omega (arith, n)),
+      ← drop-cons words 1 0 (omega (arith, n)),
+      ← drop-cons words 0 0 (omega (arith, n)),
+    )
+
+-- words that hold a state are those of the state that they hold
+pub words-again : (words : List ℕ) → length words ≡ 121 → holds words ≡ true → stateWords (heldIn words) ≡ words
+unfolding stateWords heldIn holds
+words-again words n h =
+    let mode : leb (getD words 0 0) 1 ≡ true = both-left (leb (getD words 0 0) 1) _ h in
+    let rest : both (isVersion (getD words 4 0)) (fitsIn (drop 4 words)) ≡ true = both-right (leb (getD words 0 0) 1) _ h in
+    let version : isVersion (getD (drop 4 words) 0 0) ≡ true = ap isVersion (getD-drop 4 words 0 0) ∙ both-left (isVersion (getD words 4 0)) _ rest in
+    rw (
+      mode-number (getD words 0 0) mode,
+      header-words-again (drop 4 words) (omega (arith, length-drop 4 words, n)) version,
+      ← drop-cons words 3 0 (omega (arith, n)),
+      ← drop-cons words 2 0 (omega (arith, n)),
+      ← drop-cons words 1 0 (omega (arith, n)),
+      ← drop-cons words 0 0 (omega (arith, n)),
+    )
 
 -- a word of 32 bits fits
 fits-one : (x : ℕ) → x < 2 ^ 32 → leb x 4294967295 ≡ true

@@ -45,10 +45,10 @@ pub words-done : {a : Answer} {ids start bytes : ℕ} → a ≡ Done ids start b
 words-done e = rw e
 
 -- an answer that tells it
-number-of : (a : Answer) (k ids start bytes : ℕ) → toldBy a ≡ told k ids start bytes → answerNo a ≡ k
+pub number-of : (a : Answer) (k ids start bytes : ℕ) → toldBy a ≡ told k ids start bytes → answerNo a ≡ k
 number-of a k ids start bytes e = number-told a ∙ ap (λ (l : List ℕ). getD l 0 0) e ∙ told-number k ids start bytes
 
-words-of : (a : Answer) (k ids start bytes : ℕ) → toldBy a ≡ told k ids start bytes → answerWords a ≡ given k ids start bytes
+pub words-of : (a : Answer) (k ids start bytes : ℕ) → toldBy a ≡ told k ids start bytes → answerWords a ≡ given k ids start bytes
 words-of a k ids start bytes e = words-told a ∙ ap three e ∙ told-words k ids start bytes
 
 -- the number of a call on words that hold a state, and on words that hold none
@@ -69,7 +69,7 @@ unfolding readGiven
 read-unheld words img t room start offset h = rw h
 
 -- 19 has three zeros beside it, leaves the id list zero, and the buffer as it was
-zeros-given : (ids start bytes : ℕ) → 0 ∷ 0 ∷ 0 ∷ [] ≡ given 19 ids start bytes
+pub zeros-given : (ids start bytes : ℕ) → 0 ∷ 0 ∷ 0 ∷ [] ≡ given 19 ids start bytes
 unfolding given
 zeros-given ids start bytes = refl
 

@@ -4,3 +4,4 @@ pub mod Answers
 pub mod Holding
 pub mod Giving
 pub mod Again
+pub mod Changing

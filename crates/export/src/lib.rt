@@ -20,6 +20,7 @@ use layout::words_of;
 use states::holds_state;
 use states::state_in;
 use states::words_of_state;
+use told::give;
 use told::number_of_answer;
 use told::words_of_answer;
 ghost use mathlib.Core.Path.{_≡_};
@@ -31,6 +32,7 @@ ghost use Rattle.export.specs.Items.{kindNumber, itemNumber, itemNumbers
 ghost use Rattle.export.specs.Layout.{modeOf, wordsOf, headerLeft, writtenNo, bytesLeft};
 ghost use Rattle.export.specs.States.{OpenGives};
 ghost use Rattle.export.specs.Chains.{OpenChainGives, ReadChainGives};
+ghost use Rattle.export.specs.Changes.{WriteChainGives, ResizeChainGives};
 
 // Reads a header: 0, or the number of the refusal; `words` then hold the header, or what stands beside the refusal. Mode 0 is permissive.
 #[no_mangle]
@@ -156,6 +158,101 @@ pub extern "C" fn rasuvelk_read_chain(
     let numbers = words_of_answer(told);
     *answer = numbers;
     number_of_answer(told)
+}
+
+// Writes all of `buf` over a chain's bytes from byte `offset` on: 0, or the number of the refusal, which leaves all but `ids` and `answer`; `state` then holds the words of the state after the write, and `answer` how many ids, the start and how many bytes were written, or zeros. Words that hold no state are refused by 19 as above.
+#[no_mangle]
+pub extern "C" fn rasuvelk_write_chain(
+    state: &mut [u64; 121],
+    image: &mut [u8],
+    fat: &mut [u32],
+    fats: &mut [u32],
+    difats: &mut [u32],
+    frees: &mut [u32],
+    marks: &mut [u8],
+    ids: &mut [u32],
+    start: u32,
+    offset: u64,
+    buf: &[u8],
+    answer: &mut [u64; 3],
+) -> u32
+    ensures { λ r. ⌜ WriteChainGives (now (state .entry)) (now (image .entry)) (record { fat = now (fat .entry); fats = now (fats .entry); difats = now (difats .entry); frees = now (frees .entry); marks = now (marks .entry) }) (now (ids .entry)) start offset (now (buf .entry)) r (now (answer .exit)) (now (state .exit)) (now (image .exit)) (record { fat = now (fat .exit); fats = now (fats .exit); difats = now (difats .exit); frees = now (frees .exit); marks = now (marks .exit) }) (now (ids .exit)) ⌝ }
+{
+    let lent = *state;
+    if !holds_state(lent) {
+        words::fill32(ids, 0);
+        *answer = [0u64; 3];
+        return 19;
+    }
+    let held = state_in(lent);
+    let called = held.write(
+        image,
+        fat,
+        fats,
+        difats,
+        frees,
+        marks,
+        ids,
+        start,
+        offset,
+        buf,
+    );
+    give(called, state, answer)
+}
+
+// Resizes a chain to the sectors that `length` bytes ask for: 0, or the number of the refusal, likewise; no bytes are told of.
+#[no_mangle]
+pub extern "C" fn rasuvelk_resize_chain(
+    state: &mut [u64; 121],
+    image: &mut [u8],
+    fat: &mut [u32],
+    fats: &mut [u32],
+    difats: &mut [u32],
+    frees: &mut [u32],
+    marks: &mut [u8],
+    ids: &mut [u32],
+    start: u32,
+    length: u64,
+    answer: &mut [u64; 3],
+) -> u32
+    ensures { λ r. ⌜ ResizeChainGives (now (state .entry)) (now (image .entry)) (record { fat = now (fat .entry); fats = now (fats .entry); difats = now (difats .entry); frees = now (frees .entry); marks = now (marks .entry) }) (now (ids .entry)) start length r (now (answer .exit)) (now (state .exit)) (now (image .exit)) (record { fat = now (fat .exit); fats = now (fats .exit); difats = now (difats .exit); frees = now (frees .exit); marks = now (marks .exit) }) (now (ids .exit)) ⌝ }
+{
+    let lent = *state;
+    if !holds_state(lent) {
+        words::fill32(ids, 0);
+        *answer = [0u64; 3];
+        return 19;
+    }
+    let held = state_in(lent);
+    let called = held.resize(image, fat, fats, difats, frees, marks, ids, start, length);
+    give(called, state, answer)
+}
+
+// Frees a whole chain: resizes it to 0.
+#[no_mangle]
+pub extern "C" fn rasuvelk_free_chain(
+    state: &mut [u64; 121],
+    image: &mut [u8],
+    fat: &mut [u32],
+    fats: &mut [u32],
+    difats: &mut [u32],
+    frees: &mut [u32],
+    marks: &mut [u8],
+    ids: &mut [u32],
+    start: u32,
+    answer: &mut [u64; 3],
+) -> u32
+    ensures { λ r. ⌜ ResizeChainGives (now (state .entry)) (now (image .entry)) (record { fat = now (fat .entry); fats = now (fats .entry); difats = now (difats .entry); frees = now (frees .entry); marks = now (marks .entry) }) (now (ids .entry)) start 0 r (now (answer .exit)) (now (state .exit)) (now (image .exit)) (record { fat = now (fat .exit); fats = now (fats .exit); difats = now (difats .exit); frees = now (frees .exit); marks = now (marks .exit) }) (now (ids .exit)) ⌝ }
+{
+    let lent = *state;
+    if !holds_state(lent) {
+        words::fill32(ids, 0);
+        *answer = [0u64; 3];
+        return 19;
+    }
+    let held = state_in(lent);
+    let called = held.free(image, fat, fats, difats, frees, marks, ids, start);
+    give(called, state, answer)
 }
 
 // The kind of an entry: 0 regular, 1 reserved, 2 DIFAT, 3 FAT, 4 END, 5 FREE.

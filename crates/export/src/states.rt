@@ -138,10 +138,11 @@ fn version_in(number: u32) -> Version
     Version::V3
 }
 
-// The state that words hold.
+// The state that words hold; they are its words.
 pub(crate) fn state_in(words: [u64; 121]) -> State
     requires { ⌜ holds words ≡ true ⌝ }
     ensures { λ r. ⌜ r ≡ heldIn words ⌝ }
+    ensures { λ r. ⌜ stateWords r ≡ words ⌝ }
 {
     let held = header_words(words);
     let version = version_in(held[0]);

@@ -1,7 +1,10 @@
-// The answer of a call on a chain as its number and three words.
+// The answer of a call on a chain as its number and three words, and the state after it as its words.
+use crate::states::words_of_state;
 use cfb::Answer;
+use cfb::Called;
 ghost use mathlib.Core.Path.{_≡_};
 ghost use Rattle.export.specs.Chains.{answerNo, answerWords};
+ghost use Rattle.export.specs.States.{stateWords};
 
 // The number of an answer: 0 for an acceptance.
 pub(crate) fn number_of_answer(answer: Answer) -> u32
@@ -25,4 +28,19 @@ pub(crate) fn words_of_answer(answer: Answer) -> [u64; 3]
         Answer::Done { ids, start, bytes } => [ids as u64, start as u64, bytes as u64],
         Answer::Refused(_) => [0u64; 3],
     }
+}
+
+// Gives a call that changed a chain: the number of its answer, the three words beside it, and the words of the state.
+pub(crate) fn give(called: Called, state: &mut [u64; 121], answer: &mut [u64; 3]) -> u32
+    ensures { λ r. ⌜ r ≡ answerNo (called .answer) ⌝ }
+    ensures { λ _. ⌜ now (state .exit) ≡ stateWords (called .state) ⌝ }
+    ensures { λ _. ⌜ now (answer .exit) ≡ answerWords (called .answer) ⌝ }
+{
+    let left = called.state;
+    let held = words_of_state(left);
+    *state = held;
+    let told = called.answer;
+    let numbers = words_of_answer(told);
+    *answer = numbers;
+    number_of_answer(told)
 }

@@ -46,7 +46,7 @@ same-length-2 c = search needs
 returns-2 : tie.Need-returns-2
 returns-2 c =
     let judged = taken c .before in
-    open-given _ _ _ _ _ _ _ _ _ _ _ (judged .before .holds-state .ensures) (not-false _ (judged .if1 .left)) (taken c .state-in .ensures) _ _ (c .number-of-answer .ensures) (c .before .words-of-answer .ensures) (called c .open-chain .ensures)
+    open-given _ _ _ _ _ _ _ _ _ _ _ (judged .before .holds-state .ensures) (not-false _ (judged .if1 .left)) (taken c .state-in .ensures .0) _ _ (c .number-of-answer .ensures) (c .before .words-of-answer .ensures) (called c .open-chain .ensures)
 
 pub rasuvelk-open-chain-spec : {M : Type 1} → statement M
 rasuvelk-open-chain-spec =

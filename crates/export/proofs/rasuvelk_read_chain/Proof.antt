@@ -49,7 +49,7 @@ same-length-3 c = search needs
 returns-2 : tie.Need-returns-2
 returns-2 c =
     let judged = taken c .before in
-    read-given _ _ _ _ _ _ _ _ _ _ _ (judged .before .holds-state .ensures) (not-false _ (judged .if1 .left)) (taken c .state-in .ensures) _ _ (c .number-of-answer .ensures) (c .before .words-of-answer .ensures) _ _ _ (called c .read .ensures)
+    read-given _ _ _ _ _ _ _ _ _ _ _ (judged .before .holds-state .ensures) (not-false _ (judged .if1 .left)) (taken c .state-in .ensures .0) _ _ (c .number-of-answer .ensures) (c .before .words-of-answer .ensures) _ _ _ (called c .read .ensures)
 
 pub rasuvelk-read-chain-spec : {M : Type 1} → statement M
 rasuvelk-read-chain-spec =

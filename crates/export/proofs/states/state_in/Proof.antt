@@ -1,4 +1,8 @@
 -- Each number is read where the definition reads it, and the header from the words behind them, which fit.
+use mathlib.Core.Path.{_≡_, _∙_, ap}
+use lib.ListN.{length}
+use Rattle.export.specs.States.{stateWords}
+use Rattle.export.proofs.Again.{words-again}
 use Rattle.export.proofs.Holding.{holds-fits, state-held}
 use borrow.Author.Needs.{needs}
 use Rattle.export.proofs.states.state_in.Statement.{statement}
@@ -33,8 +37,11 @@ array-read-t24 c = search needs
 
 returns : tie.Need-returns
 returns c =
-    let words = c .before .before .before .before .args .t1 in
-    state-held words _ (c .before .before .before .header-words .ensures) (c .before .before .version-in .ensures) (c .before .header-with .ensures) (c .mode-in .ensures)
+    let start = c .before .before .before .before in
+    let words = start .args .t1 in
+    let whole : length words ≡ 121 = start .good .0 .1 .0 .1 in
+    let held = state-held words _ (c .before .before .before .header-words .ensures) (c .before .before .version-in .ensures) (c .before .header-with .ensures) (c .mode-in .ensures) in
+    (held, ap stateWords held ∙ words-again words whole (start .pre))
 
 pub state-in-spec : {M : Type 1} → statement M
 state-in-spec =
