@@ -156,7 +156,7 @@ module _ (s : State) (img : List ℕ) (t : Tables) (ids : List ℕ) (start : ℕ
           open-read {k} z = rw (eq-eqb k 0 z)
 
 -- two answers with the same numbers are one
-told-apart : (v w : Answer) → toldBy v ≡ toldBy w → v ≡ w
+pub told-apart : (v w : Answer) → toldBy v ≡ toldBy w → v ≡ w
 told-apart (Done a b c) (Done x y z) e =
     let p : a ≡ x = ap (λ (xs : List ℕ). getD xs 1 0) e in
     let q : b ≡ y = ap (λ (xs : List ℕ). getD xs 2 0) e in

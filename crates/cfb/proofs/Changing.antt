@@ -8,7 +8,7 @@ use native.Mathlib.Omega.{arith}
 use native.Mathlib.Nat.{add-mul, one-mul, mul-le-mul-right}
 use borrow.Author.Tests.{eq-eqb, ne-eqb, lt-ltb, le-ltb, ltb-false}
 use lib.Dec.{eqb, ltb}
-use lib.ListN.{length, getD, replicate}
+use lib.ListN.{length, replicate}
 use Rattle.lists.specs.Lists.{choose}
 use Rattle.lists.specs.Rows.{Row, row, refusal, distinct, fresh}
 use Rattle.lists.proofs.Rows.{stop, pass, append-given, append-none}
@@ -29,7 +29,7 @@ use Rattle.cfb.specs.declared.State.{State}
 use Rattle.cfb.specs.declared.Called.{Called}
 use Rattle.cfb.specs.declared.Answer.{Answer}
 use Rattle.cfb.specs.declared.Answer.the-variants as answers
-use Rattle.cfb.proofs.Answering.{told-refused, told-done, walked-refused, walked-listed}
+use Rattle.cfb.proofs.Answering.{told-refused, told-done, told-apart, walked-refused, walked-listed}
 use Rattle.cfb.proofs.Fitted.{handIn}
 use Rattle.cfb.proofs.Ready.{ready-fits, ready-apart}
 
@@ -223,18 +223,9 @@ pub made-lies : (S R : ℕ) (c after : Chain) → c ≡ after → FitsChain S R 
     → (512 ≤ length (c .hand .disk .image)) × ((c .hand .disk .sectors + 1) * S ≤ length (c .hand .disk .image)) × (c .count ≤ length (c .ids))
 made-lies S R c after e f = fits-lies S R c (rw e f)
 
--- the answer that numbers tell is the one whose they are
-answer-told : List ℕ → Answer
-answer-told l = choose (eqb (length l) 1) (answers.Refused (getD l 0 0)) (Done (getD l 1 0) (getD l 2 0) (getD l 3 0))
-
-told-again : (a : Answer) → answer-told (toldBy a) ≡ a
-unfolding answer-told
-told-again (Done ids start bytes) = refl
-told-again (answers.Refused k) = refl
-
 -- any two results that the contract of a change permits are the same
 pub changes-unique : {s : State} {img : List ℕ} {t : Tables} {ids : List ℕ} {k : ℕ} {after : Chain} {bytes : ℕ} {r q : Called} {img' img'' : List ℕ} {t' t'' : Tables} {ids' ids'' : List ℕ}
     → Changes s img t ids k after bytes r img' t' ids' → Changes s img t ids k after bytes q img'' t'' ids''
     → (r .answer ≡ q .answer) × (r .state ≡ q .state) × (img' ≡ img'') × (t' ≡ t'') × (ids' ≡ ids'')
 changes-unique {r = r} {q} a b =
-    (sym (told-again (r .answer)) ∙ ap answer-told (a .answer ∙ sym (b .answer)) ∙ told-again (q .answer), a .state ∙ sym (b .state), a .image ∙ sym (b .image), a .tables ∙ sym (b .tables), a .list ∙ sym (b .list))
+    (told-apart (r .answer) (q .answer) (a .answer ∙ sym (b .answer)), a .state ∙ sym (b .state), a .image ∙ sym (b .image), a .tables ∙ sym (b .tables), a .list ∙ sym (b .list))

@@ -12,8 +12,8 @@ use Rattle.cfb.specs.Changes.{stateFrom, tablesIn, startIn, Changes, ChainResiz
 use Rattle.cfb.specs.declared.State.{State}
 use Rattle.cfb.specs.declared.Called.{Called}
 use Rattle.export.specs.States.{stateWords}
-use Rattle.export.specs.Chains.{holds, heldIn, answerNo, answerWords, given}
-use Rattle.export.specs.Changes.{heldNo, ChangeGives, ResizeChainGives, WriteChainGives}
+use Rattle.export.specs.Chains.{holds, heldIn, answerNo, answerWords, given, heldNo}
+use Rattle.export.specs.Changes.{ChangeGives, ResizeChainGives, WriteChainGives}
 use Rattle.export.proofs.Again.{header-fits, state-holds}
 use Rattle.export.proofs.Giving.{number-of, words-of, zeros-given}
 

@@ -54,15 +54,20 @@ answerWords (Refused k) = 0 ∷ 0 ∷ 0 ∷ []
 unfoldable pub given : ℕ → ℕ → ℕ → ℕ → List ℕ
 given k ids start bytes = choose (eqb k 0) (ids ∷ start ∷ bytes ∷ []) (0 ∷ 0 ∷ 0 ∷ [])
 
--- the number that opening a chain ends with: 19 for words that hold no state, before the call's own
+-- the number of a call that ends with k on the state that words hold: 19 for words that hold none, before k
+unfoldable pub heldNo : List ℕ → ℕ → ℕ
+unfolding holds
+heldNo words k = choose (holds words) k 19
+
+-- the number that opening a chain ends with
 unfoldable pub chainGiven : List ℕ → List ℕ → Tables → ℕ → ℕ → ℕ
-unfolding holds heldIn
-chainGiven words img t room start = choose (holds words) (chainNo (heldIn words) img t room start) 19
+unfolding heldNo heldIn
+chainGiven words img t room start = heldNo words (chainNo (heldIn words) img t room start)
 
 -- the number that a read ends with, likewise
 unfoldable pub readGiven : List ℕ → List ℕ → Tables → ℕ → ℕ → ℕ → ℕ
-unfolding holds heldIn
-readGiven words img t room start offset = choose (holds words) (readNo (heldIn words) img t room start offset) 19
+unfolding heldNo heldIn
+readGiven words img t room start offset = heldNo words (readNo (heldIn words) img t room start offset)
 
 -- opening a chain at the library's edge: the number, the three words, the state's words, image and tables as they were, and the id list
 pub record OpenChainGives (words img : List ℕ) (t : Tables) (ids : List ℕ) (start r : ℕ) (told words' img' : List ℕ) (t' : Tables) (ids' : List ℕ) : Type 0 where
