@@ -1,0 +1,5 @@
+pub mod Freed
+pub mod Growing
+pub mod Listed
+pub mod Order
+pub mod Roles
