@@ -168,7 +168,7 @@ module _ (S R : ℕ) (d : Disk) (f : FitsFat S R d) where
       }
 
 -- how many there are when a new sector is taken, by whether the FAT is full
-new-fats : (S : ℕ) (d : Disk) → (newSector S d .fats ≡ ready S d .fats) × (newSector S d .difats ≡ ready S d .difats)
+pub new-fats : (S : ℕ) (d : Disk) → (newSector S d .fats ≡ ready S d .fats) × (newSector S d .difats ≡ ready S d .difats)
 unfolding newSector store pushFat
 new-fats S d = (refl, refl)
 
@@ -197,7 +197,7 @@ module _ (S R : ℕ) (d : Disk) (f : FitsNew S R d) where
       (same-or (d .sectors % perSector S) 0)
 
 -- document 01: a FREE sector is taken
-reused-lists : (S : ℕ) (d : Disk) (id : ℕ) → (reused S d id .fats ≡ d .fats) × (reused S d id .difats ≡ d .difats)
+pub reused-lists : (S : ℕ) (d : Disk) (id : ℕ) → (reused S d id .fats ≡ d .fats) × (reused S d id .difats ≡ d .difats)
 unfolding reused store setFat
 reused-lists S d id = (refl, refl)
 

@@ -1,5 +1,9 @@
+pub mod Extended
 pub mod Freed
 pub mod Growing
+pub mod Joining
 pub mod Listed
 pub mod Order
 pub mod Roles
+pub mod Sparing
+pub mod Taking

@@ -157,7 +157,7 @@ take-roles S R m c f r =
     (omega (arith, fewer)) stay (taken-no-fat S R c r) (taken-no-difat S R c r)
 
 -- a sector is taken, linked and listed
-one-listed : (S : ℕ) (c : Chain) → c .count < length (c .ids) → Listed (c .ids) (extendOne S c .ids) (c .count) (extendOne S c .count) (takenId S (c .hand))
+pub one-listed : (S : ℕ) (c : Chain) → c .count < length (c .ids) → Listed (c .ids) (extendOne S c .ids) (c .count) (extendOne S c .count) (takenId S (c .hand))
 unfolding extendOne
 one-listed S c l = listed-more (c .ids) _ (c .count) _ (takenId S (c .hand)) refl refl l
 
@@ -172,7 +172,7 @@ extend-roles S R zero c f r = rw extend-none r
 extend-roles S R (suc m) c f r = rw extend-more (extend-roles S R m (extendOne S c) (one-fits f) (one-roles S R m c f r))
 
 -- a chain is cut, and its tail freed
-shrink-lists : (S R m : ℕ) (c : Chain) → FitsShrink S R m c → SameLists (c .hand .disk) (shrink S c m .hand .disk)
+pub shrink-lists : (S R m : ℕ) (c : Chain) → FitsShrink S R m c → SameLists (c .hand .disk) (shrink S c m .hand .disk)
 unfolding cut
 shrink-lists S R m c f =
     ⊎-elim
@@ -186,12 +186,12 @@ shrink-lists S R m c f =
 
 module _ (S R m : ℕ) (c : Chain) (f : FitsShrink S R m c) (r : Roles S R c) where
   -- a sector that is FREE then was FREE, or is one of the tail
-  abbrev Freed : ℕ → Type 0
+  abbrev pub Freed : ℕ → Type 0
   Freed q =
       ((q < c .hand .free) × (getD (shrink S c m .hand .frees) q 0 ≡ getD (c .hand .frees) q 0))
       ⊎ ((m + (q - c .hand .free) < c .count) × (c .hand .free ≤ q) × (getD (shrink S c m .hand .frees) q 0 ≡ getD (c .ids) (m + (q - c .hand .free)) 0))
 
-  freed-from : (q : ℕ) → q < shrink S c m .hand .free → Freed q
+  pub freed-from : (q : ℕ) → q < shrink S c m .hand .free → Freed q
   freed-from q l =
       ⊎-elim
       (λ (h : q < c .hand .free). inl (h, freed-stay S R m c f q h))
