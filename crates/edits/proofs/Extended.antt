@@ -2,29 +2,28 @@
 use Prim.Native.Nat.{ℕ, zero, suc, _+_, _-_, _*_, _≤_, _<_}
 use mathlib.Core.Path.{_≡_, refl, _∙_, sym, ap}
 use mathlib.Core.List.{List, [], _∷_, _++_, append-assoc, append-nil}
-use mathlib.Core.Logic.{_⊎_, inl, inr, ⊎-elim, _≢_}
+use mathlib.Core.Logic.{⊎-elim, _≢_}
 use native.Mathlib.Omega.{arith}
 use native.Mathlib.Nat.{mul-suc, mul-zero}
-use lib.ListN.{length, getD, take, set, replicate, length-replicate, getD-replicate, replicate-append-replicate}
+use lib.ListN.{length, getD, replicate, length-replicate, getD-replicate, replicate-append-replicate}
 use lib.Seq.{ext-getD, take-suc-set}
 use Rattle.lists.specs.Lists.{part}
 use Rattle.lists.proofs.Cases.{same-or}
 use Rattle.lists.proofs.Splice.{length-part, getD-part}
 use Rattle.sectors.specs.Sectors.{startOf, sectorOf}
-use Rattle.chain.specs.Bytes.{chainBytes, Lies}
+use Rattle.chain.specs.Bytes.{chainBytes}
 use Rattle.chain.proofs.Apart.{sector-other}
-use Rattle.moves.specs.Disk.{Disk}
-use Rattle.moves.specs.Hand.{Hand, Chain, takenId, takeSector, extendOne, extend}
-use Rattle.moves.specs.Fits.{FitsChain, FitsMore}
+use Rattle.moves.specs.Hand.{Chain, takenId, extendOne, extend}
+use Rattle.moves.specs.Fits.{FitsMore}
 use Rattle.moves.specs.Change.{idsOf}
 use Rattle.moves.proofs.Keeping.{sectors-inside}
 use Rattle.moves.proofs.Taking.{id-new, id-last, take-sectors-grow, taken-below}
 use Rattle.moves.proofs.Linking.{one-count, one-free, one-sectors, one-fits, one-long, more-place, more-room}
-use Rattle.moves.proofs.Extending.{extend-none, extend-more, extend-count}
-use Rattle.moves.proofs.Changing.{chain-listed, chain-id, chain-lies}
+use Rattle.moves.proofs.Extending.{extend-none, extend-more}
+use Rattle.moves.proofs.Changing.{chain-listed, chain-id}
 use Rattle.moves.proofs.Staying.{ready-least, taken-other, one-ids-at, one-ids-last, one-frees-at}
 use Rattle.edits.specs.Roles.{Roles, fatsHeld, difatsHeld}
-use Rattle.edits.specs.Untouched.{Beside, Aside, Untouched, Other}
+use Rattle.edits.specs.Untouched.{Beside, Untouched, Other}
 use Rattle.edits.proofs.Listed.{listed-stays, listed-none}
 use Rattle.edits.proofs.Growing.{one-grown}
 use Rattle.edits.proofs.Taking.{one-spares, one-zero}

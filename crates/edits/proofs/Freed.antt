@@ -1,19 +1,17 @@
 -- The free list after a run of sectors is freed: the sectors in their order behind those that it had. Assumes nothing.
-use Prim.Native.Nat.{ℕ, zero, suc, _+_, _-_, _≤_, _<_}
-use mathlib.Core.Path.{_≡_, refl, _∙_, sym, ap}
+use Prim.Native.Nat.{ℕ, zero, suc, _+_, _≤_, _<_}
+use mathlib.Core.Path.{_≡_, refl, _∙_, ap}
 use mathlib.Core.List.{List}
 use native.Mathlib.Omega.{arith}
-use native.Mathlib.Nat.{add-zero, add-suc, suc-add}
 use lib.ListN.{length, getD, set, length-set}
 use lib.Seq.{getD-set-same, getD-set-other}
-use Rattle.consts.specs.Consts.{freeSector}
 use Rattle.moves.specs.Disk.{setFat}
 use Rattle.moves.specs.Hand.{Hand, point, freeSectorOf, freeRun}
 use Rattle.moves.proofs.Freeing.{free-none, free-more, free-one-count}
 use Rattle.edits.proofs.Growing.{SameLists}
 
 -- one sector freed
-one-frees : (S : ℕ) (h : Hand) (i : ℕ) → freeSectorOf S h i .frees ≡ set (h .frees) (h .free) i
+pub one-frees : (S : ℕ) (h : Hand) (i : ℕ) → freeSectorOf S h i .frees ≡ set (h .frees) (h .free) i
 unfolding freeSectorOf
 one-frees S h i = refl
 

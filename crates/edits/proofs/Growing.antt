@@ -1,23 +1,21 @@
 -- Which sectors the FAT and the DIFAT have after a sector is taken: those that they had, and one more where document 01 asks for it. Assumes nothing.
-use Prim.Native.Nat.{ℕ, zero, suc, _+_, _-_, _/_, _%_, _≤_, _<_}
+use Prim.Native.Nat.{ℕ, suc, _+_, _-_, _/_, _%_, _≤_, _<_}
 use mathlib.Core.Path.{_≡_, refl, _∙_, sym, ap}
 use mathlib.Core.Bool.{true, false}
 use mathlib.Core.List.{List}
-use mathlib.Core.Logic.{_⊎_, ⊎-elim, _≢_}
+use mathlib.Core.Logic.{⊎-elim, _≢_}
 use native.Mathlib.Omega.{arith}
 use native.Mathlib.Nat.{div-le-self}
 use borrow.Author.Tests.{lt-ltb, le-ltb}
-use lib.ListN.{length, getD, set}
-use Rattle.lists.specs.Lists.{choose}
-use Rattle.lists.proofs.Cases.{below-or, same-or, true-or}
-use Rattle.consts.specs.Consts.{endOfChain}
+use lib.ListN.{getD, set}
+use Rattle.lists.proofs.Cases.{below-or, same-or, true-or, not-both}
 use Rattle.sectors.specs.Sectors.{perSector}
 use Rattle.fat.specs.Lists.{fatCount, difatCount}
 use Rattle.moves.specs.Disk.{Disk, store, setFat, pushFat, listFat, listDifat, appendDifat, needsDifat, storePlace, holdPlace, listPlace, appendFat, afterFat, oneMore, ready, newSector}
 use Rattle.moves.specs.Hand.{Hand, Chain, reused, point, takenId, takeSector, linked, extendOne}
 use Rattle.moves.specs.Fits.{FitsFat, FitsNew, FitsHand, FitsMore}
-use Rattle.moves.proofs.Counting.{fat-suc, fat-full, difat-none, difat-suc, needs-full, needs-not, needs-near, after-needs, after-not}
-use Rattle.moves.proofs.Fitting.{append-sectors, ready-full, ready-part, ready-sectors, new-sectors, new-full, new-many, count-full, count-part, full-many, full-place, full-room, reused-sectors, marked-room}
+use Rattle.moves.proofs.Counting.{fat-full, difat-none, difat-suc, needs-full, needs-not, needs-near, after-needs, after-not}
+use Rattle.moves.proofs.Fitting.{append-sectors, ready-full, ready-part, new-sectors, new-full, count-full, count-part, full-many, full-place, reused-sectors}
 use Rattle.moves.proofs.Taking.{take-none, take-one, id-new, id-last}
 use Rattle.moves.proofs.Linking.{linked-none, linked-last, more-room}
 use Rattle.edits.specs.Roles.{fatsHeld, difatsHeld}
@@ -83,7 +81,7 @@ place-difats-same S p id d t =
 pub needs-far : (S p : ℕ) → needsDifat S p ≡ true → 109 ≤ p
 needs-far S p t =
     ⊎-elim
-    (λ (near : p < 109). absurd (Rattle.lists.proofs.Cases.not-both t (needs-near S p near)))
+    (λ (near : p < 109). absurd (not-both t (needs-near S p near)))
     (λ (far : 109 ≤ p). far)
     (below-or p 109)
 

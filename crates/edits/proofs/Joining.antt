@@ -1,8 +1,8 @@
 -- The bytes of sectors one after the other: joined, cut short, and kept from one image to another. Assumes nothing.
-use Prim.Native.Nat.{ℕ, suc, _+_, _-_, _*_, _≤_, _<_}
+use Prim.Native.Nat.{ℕ, suc, _+_, _*_, _≤_, _<_}
 use mathlib.Core.Path.{_≡_, refl, _∙_, sym, ap}
 use mathlib.Core.List.{List, [], _∷_, _++_, flatMap, append-assoc, append-nil}
-use mathlib.Core.Logic.{_⊎_, inl, inr, ⊎-elim, _≢_}
+use mathlib.Core.Logic.{inr, _≢_}
 use native.Mathlib.Omega.{arith}
 use native.Mathlib.Nat.{add-mul, one-mul}
 use lib.ListN.{length, getD, take, drop, take-append-drop}
@@ -16,7 +16,7 @@ use Rattle.chain.proofs.Bytes.{length-chain}
 use Rattle.moves.specs.Disk.{Disk}
 use Rattle.moves.specs.Hand.{Chain}
 use Rattle.edits.specs.Roles.{fatsHeld, difatsHeld}
-use Rattle.edits.specs.Untouched.{Beside, Spared, Aside, Untouched, Other}
+use Rattle.edits.specs.Untouched.{Aside, Untouched, Other}
 
 -- the bytes of two lists of sectors, and of one sector
 pub chain-append : (S : ℕ) (img xs ys : List ℕ) → chainBytes S img (xs ++ ys) ≡ chainBytes S img xs ++ chainBytes S img ys

@@ -1,3 +1,5 @@
+pub mod Changed
+pub mod Edits
 pub mod Extended
 pub mod Freed
 pub mod Growing
@@ -5,5 +7,6 @@ pub mod Joining
 pub mod Listed
 pub mod Order
 pub mod Roles
+pub mod Shrunk
 pub mod Sparing
 pub mod Taking

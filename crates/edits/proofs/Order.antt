@@ -1,23 +1,23 @@
--- Which sectors a change takes and frees, and in which order (document 01, "Calls on a chain"). Assumes nothing.
+-- The laws of the order in which sectors are taken and freed. Assumes nothing.
 use Prim.Native.Nat.{ℕ, zero, suc, _+_, _-_, _≤_, _<_}
-use mathlib.Core.Path.{_≡_, refl, _∙_, sym, ap}
+use mathlib.Core.Path.{_≡_, _∙_, sym, ap}
 use mathlib.Core.List.{List}
 use mathlib.Core.Logic.{_⊎_, inl, inr, ⊎-elim, _≢_}
 use native.Mathlib.Omega.{arith}
 use borrow.Author.Tests.{lt-ltb, le-ltb}
-use lib.ListN.{length, getD, set}
+use lib.ListN.{length, getD}
 use lib.Seq.{getD-set-same, getD-set-other}
 use Rattle.lists.proofs.Cases.{below-or, same-or}
 use Rattle.consts.specs.Consts.{endOfChain}
-use Rattle.moves.specs.Disk.{ready, oneMore, countAfter}
-use Rattle.moves.specs.Hand.{Hand, Chain, takenId, takeSector, linked, extendOne, extend, freeRun}
+use Rattle.moves.specs.Disk.{oneMore, countAfter}
+use Rattle.moves.specs.Hand.{Hand, Chain, takenId, takeSector, extendOne, extend, freeRun}
 use Rattle.moves.specs.Fits.{FitsMore}
 use Rattle.moves.specs.Change.{cut, shrink, FitsShrink}
 use Rattle.moves.proofs.Fitting.{ready-sectors, count-more}
-use Rattle.moves.proofs.Taking.{take-one, id-new, id-last}
+use Rattle.moves.proofs.Taking.{take-none, take-one, id-new, id-last}
 use Rattle.moves.proofs.Linking.{count-none, one-count, one-free, one-sectors-new, one-sectors-same, one-fits, more-place}
 use Rattle.moves.proofs.Extending.{extend-none, extend-more}
-use Rattle.moves.proofs.Shrinking.{shrink-none, shrink-some, shrink-ids, cut-fits, cut-counts}
+use Rattle.moves.proofs.Shrinking.{shrink-none, shrink-some, cut-fits, cut-counts}
 use Rattle.moves.proofs.Staying.{linked-frees, one-frees-at, one-ids-at, one-ids-last}
 use Rattle.edits.specs.Order.{takenAt}
 use Rattle.edits.proofs.Freed.{free-run-stays, free-run-at}
@@ -77,31 +77,31 @@ pub extend-ids-stay : (S : ℕ) (c : Chain) (m j : ℕ) → j < c .count → get
 extend-ids-stay S c zero j l = rw extend-none
 extend-ids-stay S c (suc m) j l = rw extend-more (extend-ids-stay S (extendOne S c) m j (omega (arith, one-count S c, l)) ∙ one-ids-at S c j l)
 
--- document 01: sectors are taken from the end of the free list; when it is empty, id n: the i-th that is taken comes i places behind the chain's end
-pub taken-order : (S R m : ℕ) (c : Chain) → FitsMore S R m c → (i : ℕ) → i < m
+-- those that are taken follow, in their order
+pub extend-taken : (S R m : ℕ) (c : Chain) → FitsMore S R m c → (i : ℕ) → i < m
     → getD (extend S c m .ids) (c .count + i) 0 ≡ takenAt S (c .hand .disk .sectors) (c .hand .frees) (c .hand .free) i
-taken-order S R zero c f i l = absurd (omega arith)
-taken-order S R (suc m) c f zero l =
+extend-taken S R zero c f i l = absurd (omega arith)
+extend-taken S R (suc m) c f zero l =
     let here : c .count + 0 ≡ c .count = omega arith in
     rw (extend-more, here)
     (extend-ids-stay S (extendOne S c) m (c .count) (omega (arith, one-count S c)) ∙ one-ids-last S c (more-place f) ∙ taken-first S (c .hand))
-taken-order S R (suc m) c f (suc i) l =
+extend-taken S R (suc m) c f (suc i) l =
     let here : c .count + suc i ≡ extendOne S c .count + i = omega (arith, one-count S c) in
-    rw (extend-more, here) (taken-order S R m (extendOne S c) (one-fits f) i (omega arith) ∙ taken-next S c i)
+    rw (extend-more, here) (extend-taken S R m (extendOne S c) (one-fits f) i (omega arith) ∙ taken-next S c i)
 
 -- the first places of the free list stay,
-pub frees-left : (S : ℕ) (c : Chain) (m j : ℕ) → j < c .hand .free - m → getD (extend S c m .hand .frees) j 0 ≡ getD (c .hand .frees) j 0
-frees-left S c zero j l = rw extend-none
-frees-left S c (suc m) j l = rw extend-more (frees-left S (extendOne S c) m j (omega (arith, one-free S c, l)) ∙ one-frees-at S c j (omega (arith, l)))
+pub extend-frees-stay : (S : ℕ) (c : Chain) (m j : ℕ) → j < c .hand .free - m → getD (extend S c m .hand .frees) j 0 ≡ getD (c .hand .frees) j 0
+extend-frees-stay S c zero j l = rw extend-none
+extend-frees-stay S c (suc m) j l = rw extend-more (extend-frees-stay S (extendOne S c) m j (omega (arith, one-free S c, l)) ∙ one-frees-at S c j (omega (arith, l)))
 
--- document 01: past its count each table holds zero: a place that is given up is zero then, and one behind the count stays
+-- a place that is given up is zero then, and one behind the count stays
 take-zero : (S : ℕ) (h : Hand) → h .free ≢ 0 → h .free ≤ length (h .frees) → getD (takeSector S h .frees) (h .free - 1) 0 ≡ 0
 take-zero S h e l = rw (take-one S h e) (getD-set-same (h .frees) (h .free - 1) 0 0 (omega (arith, e, l)))
 
 take-past : (S : ℕ) (h : Hand) (j : ℕ) → h .free ≤ j → getD (takeSector S h .frees) j 0 ≡ getD (h .frees) j 0
 take-past S h j l =
     ⊎-elim
-    (λ (e : h .free ≡ 0). rw (Rattle.moves.proofs.Taking.take-none S h e))
+    (λ (e : h .free ≡ 0). rw (take-none S h e))
     (λ (e : h .free ≢ 0). rw (take-one S h e) (getD-set-other (h .frees) (h .free - 1) j 0 0 (omega (arith, e, l))))
     (same-or (h .free) 0)
 
@@ -109,34 +109,34 @@ one-frees : (S : ℕ) (c : Chain) → extendOne S c .hand .frees ≡ takeSector 
 unfolding extendOne
 one-frees S c = linked-frees S (takeSector S (c .hand)) (c .ids) (c .count) (takenId S (c .hand))
 
-pub frees-past : (S : ℕ) (c : Chain) (m j : ℕ) → c .hand .free ≤ j → getD (extend S c m .hand .frees) j 0 ≡ getD (c .hand .frees) j 0
-frees-past S c zero j l = rw extend-none
-frees-past S c (suc m) j l =
+pub extend-frees-past : (S : ℕ) (c : Chain) (m j : ℕ) → c .hand .free ≤ j → getD (extend S c m .hand .frees) j 0 ≡ getD (c .hand .frees) j 0
+extend-frees-past S c zero j l = rw extend-none
+extend-frees-past S c (suc m) j l =
     rw extend-more
-    (frees-past S (extendOne S c) m j (omega (arith, one-free S c, l)) ∙ ap (λ (xs : List ℕ). getD xs j 0) (one-frees S c) ∙ take-past S (c .hand) j l)
+    (extend-frees-past S (extendOne S c) m j (omega (arith, one-free S c, l)) ∙ ap (λ (xs : List ℕ). getD xs j 0) (one-frees S c) ∙ take-past S (c .hand) j l)
 
-pub frees-zero : (S R m : ℕ) (c : Chain) → FitsMore S R m c → (j : ℕ) → c .hand .free - m ≤ j → j < c .hand .free → getD (extend S c m .hand .frees) j 0 ≡ 0
-frees-zero S R zero c f j l h = absurd (omega arith)
-frees-zero S R (suc m) c f j l h =
+pub extend-frees-zero : (S R m : ℕ) (c : Chain) → FitsMore S R m c → (j : ℕ) → c .hand .free - m ≤ j → j < c .hand .free → getD (extend S c m .hand .frees) j 0 ≡ 0
+extend-frees-zero S R zero c f j l h = absurd (omega arith)
+extend-frees-zero S R (suc m) c f j l h =
     ⊎-elim
-    (λ (k : j < extendOne S c .hand .free). rw extend-more (frees-zero S R m (extendOne S c) (one-fits f) j (omega (arith, one-free S c, l)) k))
+    (λ (k : j < extendOne S c .hand .free). rw extend-more (extend-frees-zero S R m (extendOne S c) (one-fits f) j (omega (arith, one-free S c, l)) k))
     (λ (g : extendOne S c .hand .free ≤ j).
     let e : j ≡ c .hand .free - 1 = omega (arith, one-free S c, g, h) in
     rw (extend-more, e)
-    (frees-past S (extendOne S c) m (c .hand .free - 1) (omega (arith, one-free S c))
+    (extend-frees-past S (extendOne S c) m (c .hand .free - 1) (omega (arith, one-free S c))
     ∙ ap (λ (xs : List ℕ). getD xs (c .hand .free - 1) 0) (one-frees S c)
     ∙ take-zero S (c .hand) (omega (arith, h)) (omega (arith, f .fits .fits .free-few, f .fits .fits .disk .inside, f .fits .fits .frees-long))))
     (below-or j (extendOne S c .hand .free))
 
--- document 01: freed sectors join the list in chain order
+-- sectors are freed
 module _ (S R m : ℕ) (c : Chain) (f : FitsShrink S R m c) where
   cut-frees : cut S (c .hand) (c .ids) m .frees ≡ c .hand .frees
   unfolding cut
   cut-frees = linked-frees S (c .hand) (c .ids) m endOfChain
 
   -- those that the free list had stay where they are,
-  pub freed-stay : (j : ℕ) → j < c .hand .free → getD (shrink S c m .hand .frees) j 0 ≡ getD (c .hand .frees) j 0
-  freed-stay j l =
+  pub shrink-frees-stay : (j : ℕ) → j < c .hand .free → getD (shrink S c m .hand .frees) j 0 ≡ getD (c .hand .frees) j 0
+  shrink-frees-stay j l =
       ⊎-elim
       (λ (h : m < c .count).
       rw (shrink-some S c m h)
@@ -145,9 +145,9 @@ module _ (S R m : ℕ) (c : Chain) (f : FitsShrink S R m c) where
       (λ (g : c .count ≤ m). rw (shrink-none S c m g))
       (below-or m (c .count))
 
-  -- and the i-th that is freed, which stood i places behind the new end of the chain, comes i places behind them
-  pub freed-order : (i : ℕ) → i < c .count - m → getD (shrink S c m .hand .frees) (c .hand .free + i) 0 ≡ getD (c .ids) (m + i) 0
-  freed-order i l =
+  -- and those that are freed follow, in their order
+  pub shrink-freed : (i : ℕ) → i < c .count - m → getD (shrink S c m .hand .frees) (c .hand .free + i) 0 ≡ getD (c .ids) (m + i) 0
+  shrink-freed i l =
       let h : m < c .count = omega arith in
       let k : c .hand .free ≡ cut S (c .hand) (c .ids) m .free = sym (cut-counts S R m c f .1) in
       let g = cut-fits S R m c f in
@@ -155,7 +155,3 @@ module _ (S R m : ℕ) (c : Chain) (f : FitsShrink S R m c) where
       (ap (λ (q : ℕ). getD (freeRun S (cut S (c .hand) (c .ids) m) (c .ids) m (c .count - m) .frees) (q + i) 0) k
       ∙ free-run-at S (cut S (c .hand) (c .ids) m) (c .ids) m (c .count - m) i
       (omega (arith, cut-counts S R m c f .0, cut-counts S R m c f .1, g .frees-long, f .fits .few, f .within, f .fits .fits .disk .inside)) l)
-
-  -- document 01, Resize: the first m ids are the chain's
-  pub kept-order : (j : ℕ) → j < m → getD (shrink S c m .ids) j 0 ≡ getD (c .ids) j 0
-  kept-order j l = shrink-ids S R m c f j l

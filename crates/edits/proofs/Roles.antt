@@ -4,27 +4,26 @@ use mathlib.Core.Path.{_≡_, refl, _∙_, sym, ap}
 use mathlib.Core.List.{List}
 use mathlib.Core.Logic.{_⊎_, inl, inr, ⊎-elim, _≢_}
 use native.Mathlib.Omega.{arith}
-use lib.ListN.{length, getD, set}
+use lib.ListN.{length, getD}
 use Rattle.lists.proofs.Cases.{below-or, same-or}
 use Rattle.consts.specs.Consts.{endOfChain}
-use Rattle.fat.specs.Lists.{ceil}
-use Rattle.moves.specs.Disk.{Disk}
+use Rattle.fat.specs.Lists.{ceil, fatCount, difatCount}
 use Rattle.moves.specs.Hand.{Hand, Chain, point, takenId, takeSector, extendOne, extend, freeSectorOf, freeRun}
-use Rattle.moves.specs.Fits.{FitsHand, FitsChain, FitsMore}
+use Rattle.moves.specs.Fits.{FitsChain, FitsMore}
 use Rattle.moves.specs.Change.{cut, shrink, withImage, resizeMore, resized, writeMore, written, Apart, FitsShrink, FitsResize, FitsWrite}
 use Rattle.moves.proofs.Pointing.{point-fits, point-counts}
-use Rattle.moves.proofs.Taking.{id-new, id-last, take-fits, take-free, take-sectors-grow}
-use Rattle.moves.proofs.Linking.{linked-counts, one-count, one-free, one-fits, more-place, more-room, more-taken}
+use Rattle.moves.proofs.Taking.{id-new, id-last, take-free, take-sectors-grow}
+use Rattle.moves.proofs.Linking.{one-free, one-fits, more-place, more-room, more-taken}
 use Rattle.moves.proofs.Extending.{extend-none, extend-more}
-use Rattle.moves.proofs.Freeing.{free-one-count, free-one-sectors, free-fits}
-use Rattle.moves.proofs.Shrinking.{shrink-none, shrink-some, shrink-fits, shrink-count, shrink-sectors, shrink-free, shrink-ids}
+use Rattle.moves.proofs.Freeing.{free-none, free-more, free-one-count, chain-freed}
+use Rattle.moves.proofs.Shrinking.{shrink-none, shrink-some, shrink-fits, shrink-count, shrink-free, shrink-ids}
 use Rattle.moves.proofs.Staying.{ready-least, take-frees-at, one-frees-at, one-apart}
 use Rattle.moves.proofs.Changing.{resized-more, resized-fewer, resize-shrink, resized-fits, written-fits}
 use Rattle.edits.specs.Roles.{Roles, Once, Separate, fatsHeld, difatsHeld}
 use Rattle.edits.proofs.Listed.{Listed, listed-same, listed-fewer, listed-more, listed-once, listed-separate}
 use Rattle.edits.proofs.Growing.{GrownTo, SameLists, point-lists, linked-lists, take-grown, one-grown}
-use Rattle.edits.proofs.Freed.{free-one-lists, free-run-lists}
-use Rattle.edits.proofs.Order.{freed-stay, freed-order}
+use Rattle.edits.proofs.Freed.{one-frees, free-one-lists, free-run-lists}
+use Rattle.edits.proofs.Order.{shrink-frees-stay, shrink-freed}
 
 -- roles go by the lists alone
 module _ (S R : ℕ) (c e : Chain) (f : FitsChain S R e) (same : SameLists (c .hand .disk) (e .hand .disk)) where
@@ -171,6 +170,50 @@ pub extend-roles : (S R m : ℕ) (c : Chain) → FitsMore S R m c → Roles S R 
 extend-roles S R zero c f r = rw extend-none r
 extend-roles S R (suc m) c f r = rw extend-more (extend-roles S R m (extendOne S c) (one-fits f) (one-roles S R m c f r))
 
+-- the last sector of a chain is freed
+pub free-roles : (S R : ℕ) (c : Chain) (last : ℕ) → c .count ≡ suc last → Roles S R c
+    → Roles S R (record { hand = freeSectorOf S (c .hand) (getD (c .ids) last 0); ids = c .ids; count = last })
+free-roles S R c last k r =
+    let e : Chain = record { hand = freeSectorOf S (c .hand) (getD (c .ids) last 0); ids = c .ids; count = last } in
+    let low : last < c .count = omega (arith, k) in
+    let run : freeRun S (c .hand) (c .ids) last 1 ≡ freeSectorOf S (c .hand) (getD (c .ids) last 0)
+    = free-more S (c .hand) (c .ids) last 0 ∙ free-none S (freeSectorOf S (c .hand) (getD (c .ids) last 0)) (c .ids) (suc last) in
+    let fits : FitsChain S R e = rw (← run) (chain-freed S R last 1 c (r .fits) (omega (arith, k))) in
+    let same : SameLists (c .hand .disk) (e .hand .disk) = free-one-lists S (c .hand) (getD (c .ids) last 0) in
+    let frees : Listed (c .hand .frees) (e .hand .frees) (c .hand .free) (e .hand .free) (getD (c .ids) last 0)
+    = listed-more (c .hand .frees) (e .hand .frees) (c .hand .free) (e .hand .free) (getD (c .ids) last 0) (one-frees S (c .hand) (getD (c .ids) last 0))
+    (free-one-count S (c .hand) (getD (c .ids) last 0))
+    (omega (arith, k, r .fits .few, r .fits .fits .disk .inside, r .fits .fits .frees-long)) in
+    let fats : Listed (c .hand .disk .fats) (e .hand .disk .fats) (fatsHeld S (c .hand .disk)) (fatsHeld S (e .hand .disk)) (c .hand .disk .sectors)
+    = listed-same (c .hand .disk .fats) (e .hand .disk .fats) (fatsHeld S (c .hand .disk)) (fatsHeld S (e .hand .disk)) (c .hand .disk .sectors) (same .fats) (ap (fatCount S) (same .sectors)) in
+    let difats : Listed (c .hand .disk .difats) (e .hand .disk .difats) (difatsHeld S (c .hand .disk)) (difatsHeld S (e .hand .disk)) (c .hand .disk .sectors)
+    = listed-same (c .hand .disk .difats) (e .hand .disk .difats) (difatsHeld S (c .hand .disk)) (difatsHeld S (e .hand .disk)) (c .hand .disk .sectors) (same .difats)
+    (ap (λ (n : ℕ). difatCount S (fatCount S n)) (same .sectors)) in
+    record {
+      fits = fits;
+      apart = record {
+        ids-once = λ i j hi hj q. r .apart .ids-once i j (omega (arith, hi, k)) (omega (arith, hj, k)) q;
+        frees-once = listed-once frees (r .apart .frees-once) (λ p l q. r .apart .ids-frees last p low l (sym q));
+        ids-frees = λ i j hi hj q. ⊎-elim
+            (λ (a : (j < c .hand .free) × (getD (e .hand .frees) j 0 ≡ getD (c .hand .frees) j 0)). r .apart .ids-frees i j (omega (arith, hi, k)) (a .0) (q ∙ a .1))
+            (λ (a : (j ≡ c .hand .free) × (getD (e .hand .frees) j 0 ≡ getD (c .ids) last 0)).
+            let s : i ≡ last = r .apart .ids-once i last (omega (arith, hi, k)) low (q ∙ a .1) in
+            absurd (omega (arith, s, hi)))
+            (frees .at j hj);
+      };
+      fats-once = lists-fats S R c e fits same r;
+      difats-once = lists-difats S R c e fits same r;
+      fats-difats = lists-both S R c e fits same r;
+      ids-fats = rw (same .fats, same .sectors) (λ p q hp hq. r .ids-fats p q (omega (arith, hp, k)) hq);
+      ids-difats = rw (same .difats, same .sectors) (λ p q hp hq. r .ids-difats p q (omega (arith, hp, k)) hq);
+      frees-fats =
+          listed-separate frees fats (r .frees-fats) (λ p l. omega (arith, r .fits .fits .frees-below p l))
+          (λ p l q. r .ids-fats last p low l (sym q)) (omega (arith, r .fits .within last low));
+      frees-difats =
+          listed-separate frees difats (r .frees-difats) (λ p l. omega (arith, r .fits .fits .frees-below p l))
+          (λ p l q. r .ids-difats last p low l (sym q)) (omega (arith, r .fits .within last low));
+    }
+
 -- a chain is cut, and its tail freed
 pub shrink-lists : (S R m : ℕ) (c : Chain) → FitsShrink S R m c → SameLists (c .hand .disk) (shrink S c m .hand .disk)
 unfolding cut
@@ -194,11 +237,11 @@ module _ (S R m : ℕ) (c : Chain) (f : FitsShrink S R m c) (r : Roles S R c) wh
   pub freed-from : (q : ℕ) → q < shrink S c m .hand .free → Freed q
   freed-from q l =
       ⊎-elim
-      (λ (h : q < c .hand .free). inl (h, freed-stay S R m c f q h))
+      (λ (h : q < c .hand .free). inl (h, shrink-frees-stay S R m c f q h))
       (λ (h : c .hand .free ≤ q).
       let i : q - c .hand .free < c .count - m = omega (arith, l, shrink-free S R m c f) in
       let here : q ≡ c .hand .free + (q - c .hand .free) = omega arith in
-      inr (omega (arith, i), h, ap (λ (k : ℕ). getD (shrink S c m .hand .frees) k 0) here ∙ freed-order S R m c f (q - c .hand .free) i))
+      inr (omega (arith, i), h, ap (λ (k : ℕ). getD (shrink S c m .hand .frees) k 0) here ∙ shrink-freed S R m c f (q - c .hand .free) i))
       (below-or q (c .hand .free))
 
   freed-once : (i j : ℕ) → Freed i → Freed j → getD (shrink S c m .hand .frees) i 0 ≡ getD (shrink S c m .hand .frees) j 0 → i ≡ j

@@ -1,6 +1,6 @@
 -- What the disk's moves leave alone: the bytes that stand outside the header's fields and the sectors that they store. Assumes nothing.
-use Prim.Native.Nat.{ℕ, zero, suc, _+_, _-_, _*_, _/_, _%_, _≤_, _<_}
-use mathlib.Core.Path.{_≡_, refl, _∙_, sym, ap}
+use Prim.Native.Nat.{ℕ, suc, _+_, _-_, _*_, _/_, _%_, _≤_, _<_}
+use mathlib.Core.Path.{_≡_, refl, _∙_}
 use mathlib.Core.Bool.{true, false}
 use mathlib.Core.List.{List}
 use mathlib.Core.Logic.{_⊎_, inl, inr, ⊎-elim, _≢_}
@@ -8,29 +8,26 @@ use native.Mathlib.Omega.{arith}
 use native.Mathlib.Nat.{mod-lt, div-le-self}
 use borrow.Author.Tests.{lt-ltb, le-ltb, eq-eqb, ne-eqb}
 use lib.ListN.{length, getD, set}
-use lib.Seq.{getD-set-same, getD-set-other}
+use lib.Seq.{getD-set-same}
 use Rattle.lists.specs.Lists.{splice}
 use Rattle.lists.proofs.Cases.{below-or, same-or, true-or}
 use Rattle.lists.proofs.Splice.{splice-below, splice-above}
 use Rattle.words.specs.Words.{digits}
 use Rattle.words.proofs.Laws.{length-digits}
-use Rattle.consts.specs.Consts.{difatSector, fatSector, endOfChain}
-use Rattle.header.specs.Fields.{fatsAt, difatAt, difatsAt, entriesAt, offsetOf, widthOf}
+use Rattle.consts.specs.Consts.{difatSector}
+use Rattle.header.specs.Fields.{difatAt, difatsAt, entriesAt, offsetOf}
 use Rattle.sectors.specs.Sectors.{startOf, perSector}
 use Rattle.sectors.specs.Init.{initBytes}
 use Rattle.sectors.specs.declared.init.SectorInit.{SectorInit}
-use Rattle.sectors.specs.declared.init.SectorInit.the-variants.{Zero, Fat, Difat}
+use Rattle.sectors.specs.declared.init.SectorInit.the-variants.{Difat}
 use Rattle.sectors.proofs.New.{length-init}
-use Rattle.fat.specs.Lists.{fatCount, difatCount}
-use Rattle.moves.specs.Disk.{Disk, store, entryPlace, setFat, pushFat, listFat, listDifat, linkPlace, appendDifat, needsDifat, storePlace, holdPlace, listPlace, appendFat, oneMore, ready, newSector}
-use Rattle.moves.specs.Hand.{reused}
-use Rattle.moves.specs.Fits.{Fits, FitsWhole, FitsFat, FitsNew}
+use Rattle.fat.specs.Lists.{difatCount}
+use Rattle.moves.specs.Disk.{Disk, store, entryPlace, setFat, pushFat, listFat, listDifat, linkPlace, appendDifat, needsDifat, storePlace, holdPlace, listPlace}
+use Rattle.moves.specs.Fits.{Fits}
 use Rattle.moves.proofs.Counting.{difat-none, difat-suc, needs-full, needs-not}
-use Rattle.moves.proofs.Keeping.{Kept, kept-then, kept-none, each-many, header-inside, sectors-inside, link-inside, entries-inside, number-kept, init-kept, set-kept, push-kept, grow-kept, list-kept}
-use Rattle.moves.proofs.Fitting.{fatNew, fatMarked, place-inside, place-in-sector, entry-sector, full-many, full-fits, full-room, full-place, marked-same, marked-room, new-full, ready-full, ready-part, ready-kept, ready-has, ready-room, count-full, count-part, new-sectors}
-use Rattle.edits.specs.Untouched.{Beside, Spared, Aside}
-use Rattle.edits.specs.Roles.{fatsHeld, difatsHeld}
-use Rattle.edits.proofs.Growing.{needs-far, append-fats, append-difats-same, append-difats-more}
+use Rattle.moves.proofs.Keeping.{Kept, kept-then, kept-none, each-many, entry-inside, header-inside, sectors-inside, link-inside, entries-inside, number-kept, init-kept, set-kept, push-kept, grow-kept, list-kept}
+use Rattle.moves.proofs.Fitting.{place-inside, place-in-sector}
+use Rattle.edits.specs.Untouched.{Beside}
 
 -- a run within a sector leaves what stands beside the sector
 pub beside-run : (S i b x w : ℕ) → x + w ≤ S → Beside S i b → (b < startOf S i + x) ⊎ (startOf S i + x + w ≤ b)
@@ -118,7 +115,7 @@ module _ (P : ℕ → Type 0) where
               let beside : Beside S (getD (set (d .fats) k (d .sectors)) (d .sectors / perSector S) 0) b = rw own (s b p) in
               let inside : startOf S (getD (set (d .fats) k (d .sectors)) (d .sectors / perSector S) 0) + S ≤ length (d .image) = rw own (sectors-inside S R k j d f (d .sectors) room) in
               run-spares (d .image) (entryPlace S (set (d .fats) k (d .sectors)) (d .sectors)) (digits 4 v) 4 b (length-digits 4 v)
-              (Rattle.moves.proofs.Keeping.entry-inside S (length (d .image)) (set (d .fats) k (d .sectors)) (d .sectors) (f .holds .entries) (omega (arith, each-many S R k j d f)) inside)
+              (entry-inside S (length (d .image)) (set (d .fats) k (d .sectors)) (d .sectors) (f .holds .entries) (omega (arith, each-many S R k j d f)) inside)
               (entry-spared (d .sectors) b (set (d .fats) k (d .sectors)) beside);
         }
 

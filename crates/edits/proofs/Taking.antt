@@ -1,36 +1,36 @@
 -- The bytes of an image after a sector is taken: the sector is zero, and what stands outside the header's fields, the FAT, the DIFAT and the sector stays. Assumes nothing.
-use Prim.Native.Nat.{ℕ, zero, suc, _+_, _-_, _*_, _/_, _%_, _≤_, _<_}
+use Prim.Native.Nat.{ℕ, suc, _+_, _-_, _/_, _%_, _≤_, _<_}
 use mathlib.Core.Path.{_≡_, refl, _∙_, sym, ap}
 use mathlib.Core.Bool.{true, false}
 use mathlib.Core.List.{List}
-use mathlib.Core.Logic.{_⊎_, inl, inr, ⊎-elim, _≢_}
+use mathlib.Core.Logic.{⊎-elim, _≢_}
 use native.Mathlib.Omega.{arith}
+use native.Mathlib.Nat.{div-le-self}
 use borrow.Author.Tests.{le-ltb}
 use lib.ListN.{length, getD, set, replicate, length-replicate, getD-replicate}
 use lib.Seq.{getD-set-same}
 use Rattle.lists.specs.Lists.{splice}
-use Rattle.lists.proofs.Cases.{below-or, same-or, true-or}
+use Rattle.lists.proofs.Cases.{same-or, true-or}
 use Rattle.lists.proofs.Splice.{splice-inside}
-use Rattle.words.specs.Words.{digits}
 use Rattle.consts.specs.Consts.{fatSector, endOfChain}
 use Rattle.header.specs.Fields.{fatsAt, offsetOf}
 use Rattle.sectors.specs.Sectors.{startOf, perSector}
 use Rattle.sectors.specs.Init.{initBytes}
 use Rattle.sectors.specs.declared.init.SectorInit.the-variants.{Zero, Fat}
-use Rattle.sectors.proofs.New.{init-zero, length-init}
+use Rattle.sectors.proofs.New.{init-zero}
 use Rattle.fat.specs.Lists.{fatCount, difatCount}
 use Rattle.moves.specs.Disk.{Disk, store, setFat, pushFat, listFat, needsDifat, storePlace, holdPlace, listPlace, appendFat, oneMore, ready, newSector}
 use Rattle.moves.specs.Hand.{Hand, Chain, reused, point, takenId, takeSector, linked, extendOne}
-use Rattle.moves.specs.Fits.{Fits, FitsWhole, FitsFat, FitsNew, FitsHand, FitsMore}
+use Rattle.moves.specs.Fits.{FitsWhole, FitsFat, FitsNew, FitsHand, FitsMore}
 use Rattle.moves.proofs.Counting.{fat-full, difat-suc}
-use Rattle.moves.proofs.Keeping.{Kept, kept-then, header-inside, sectors-inside, each-many, push-kept, set-kept}
+use Rattle.moves.proofs.Keeping.{header-inside, sectors-inside, push-kept, set-kept}
 use Rattle.moves.proofs.Fitting.{fatNew, fatMarked, entry-sector, full-many, full-fits, full-room, full-place, marked-same, marked-room, new-full, ready-full, ready-part, ready-kept, ready-has, ready-room, count-full, count-part, new-sectors, reused-sectors}
 use Rattle.moves.proofs.Taking.{take-none, take-one, id-new, id-last}
 use Rattle.moves.proofs.Linking.{linked-none, linked-last, more-room, more-last, more-taken}
 use Rattle.edits.specs.Untouched.{Beside, Spared, Aside}
 use Rattle.edits.specs.Roles.{fatsHeld, difatsHeld}
 use Rattle.edits.proofs.Listed.{listed-stays}
-use Rattle.edits.proofs.Growing.{needs-far, append-fats, append-difats-same, append-difats-more, append-grown-fat, append-grown-difat, new-fats, reused-lists, SameLists, linked-lists}
+use Rattle.edits.proofs.Growing.{needs-far, append-fats, append-difats-more, append-grown-fat, append-grown-difat, new-fats, reused-lists, SameLists, linked-lists}
 use Rattle.edits.proofs.Sparing.{Moved, moved-then, moved-none, number-moved, init-moved, set-moved, push-moved, grow-moved, place-moved}
 
 -- the same by equal lists
@@ -65,7 +65,7 @@ module _ (P : ℕ → Type 0) (S R : ℕ) (d : Disk) (f : FitsFat S R d) where
         let two : 2 ≤ perSector S = omega (arith, full-many S R d f) in
         let more : difatCount S (suc place) ≡ suc ((place - 109) / (perSector S - 1)) = difat-suc S place two (needs-far S place t) in
         let low : (place - 109) / (perSector S - 1) < length (d .difats)
-        = omega (arith, native.Mathlib.Nat.div-le-self (place - 109) (perSector S - 1), full-place S R d f, f .fits .difats-long) in
+        = omega (arith, div-le-self (place - 109) (perSector S - 1), full-place S R d f, f .fits .difats-long) in
         let e : getD (appendFat S d .difats) ((place - 109) / (perSector S - 1)) 0 ≡ suc (d .sectors)
         = ap (λ (xs : List ℕ). getD xs ((place - 109) / (perSector S - 1)) 0) (append-difats-more S d t)
         ∙ getD-set-same (d .difats) ((place - 109) / (perSector S - 1)) (suc (d .sectors)) 0 low in

@@ -2,7 +2,7 @@
 use Prim.Native.Nat.{ℕ, _+_, _≤_, _<_}
 use mathlib.Core.List.{List}
 use mathlib.Core.Logic.{_⊎_, _≢_}
-use lib.ListN.{getD}
+use lib.ListN.{length, getD}
 use Rattle.header.specs.Fields.{fatsAt, difatAt, offsetOf, widthOf}
 use Rattle.sectors.specs.Sectors.{startOf}
 use Rattle.moves.specs.Disk.{Disk}
@@ -38,3 +38,7 @@ pub record Other (S : ℕ) (c : Chain) (i : ℕ) : Type 0 where
   pub no-difat : (p : ℕ) → p < difatsHeld S (c .hand .disk) → getD (c .hand .disk .difats) p 0 ≢ i
   pub no-id : (p : ℕ) → p < c .count → getD (c .ids) p 0 ≢ i
   pub no-free : (p : ℕ) → p < c .hand .free → getD (c .hand .frees) p 0 ≢ i
+
+-- a list of such sectors
+pub record Others (S : ℕ) (c : Chain) (others : List ℕ) : Type 0 where
+  pub each : (j : ℕ) → j < length others → Other S c (getD others j 0)
