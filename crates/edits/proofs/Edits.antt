@@ -20,12 +20,12 @@ use Rattle.moves.specs.Change.{shrink, idsOf, resized, writeMore, written, Fits
 use Rattle.moves.proofs.Extending.{extend-count, extend-fits, extend-long}
 use Rattle.moves.proofs.Shrinking.{shrink-ids, shrink-long}
 use Rattle.moves.proofs.Changing.{resized-fits, resized-count, resized-long, written-fits, written-count, written-long}
-use Rattle.edits.specs.Order.{takenAt}
-use Rattle.edits.specs.Roles.{Roles, fatsHeld}
+use Rattle.edits.specs.Order.{takenAt, addedFat, addedDifat}
+use Rattle.edits.specs.Roles.{Roles, fatsHeld, difatsHeld}
 use Rattle.edits.specs.Untouched.{Beside, Untouched, Others}
 use Rattle.edits.proofs.Order.{extend-ids-stay, extend-taken, extend-frees-stay, extend-frees-zero, shrink-frees-stay, shrink-freed}
 use Rattle.edits.proofs.Joining.{other-aside}
-use Rattle.edits.proofs.Extended.{extended-bytes, extended-spares, extended-other}
+use Rattle.edits.proofs.Extended.{extend-begins, extended-fats, extended-difats, extended-bytes, extended-spares, extended-other}
 use Rattle.edits.proofs.Shrunk.{shrunk-spares, shrunk-untouched, shrunk-sector, shrunk-bytes, shrunk-other}
 use Rattle.edits.proofs.Changed.{bytes-counted, others-stay, resized-holds, resized-spares, resized-other, freed-sector, written-holds, written-spares, written-other}
 
@@ -39,6 +39,20 @@ module _ (S R m : ℕ) (c : Chain) (f : FitsMore S R m c) where
   -- document 01: sectors are taken from the end of the free list; when it is empty, id n, behind the FAT and DIFAT sectors that it needs: the i-th that is taken comes i places behind the chain's old end
   pub taken-order : (i : ℕ) → i < m → getD (extend S c m .ids) (c .count + i) 0 ≡ takenAt S (c .hand .disk .sectors) (c .hand .frees) (c .hand .free) i
   taken-order = extend-taken S R m c f
+
+  -- document 01: where n is a multiple of E, sector n first becomes a FAT sector, and where its place in the DIFAT needs one, the sector after it a DIFAT sector: those that the lists have stay,
+  pub fats-stay : (p : ℕ) → p < fatsHeld S (c .hand .disk) → getD (extend S c m .hand .disk .fats) p 0 ≡ getD (c .hand .disk .fats) p 0
+  fats-stay = extend-begins S R m c f .fats-stay
+
+  pub difats-stay : (q : ℕ) → q < difatsHeld S (c .hand .disk) → getD (extend S c m .hand .disk .difats) q 0 ≡ getD (c .hand .disk .difats) q 0
+  difats-stay = extend-begins S R m c f .difats-stay
+
+  -- and those that they get are these
+  pub fats-added : (p : ℕ) → fatsHeld S (c .hand .disk) ≤ p → p < fatsHeld S (extend S c m .hand .disk) → getD (extend S c m .hand .disk .fats) p 0 ≡ addedFat S p
+  fats-added = extended-fats S R m c f
+
+  pub difats-added : (q : ℕ) → difatsHeld S (c .hand .disk) ≤ q → q < difatsHeld S (extend S c m .hand .disk) → getD (extend S c m .hand .disk .difats) q 0 ≡ addedDifat S q
+  difats-added = extended-difats S R m c f
 
   -- the free list keeps its first places,
   pub frees-left : (j : ℕ) → j < c .hand .free - m → getD (extend S c m .hand .frees) j 0 ≡ getD (c .hand .frees) j 0

@@ -8,7 +8,7 @@ use native.Mathlib.Nat.{mul-suc, mul-zero}
 use lib.ListN.{length, getD, replicate, length-replicate, getD-replicate, replicate-append-replicate}
 use lib.Seq.{ext-getD, take-suc-set}
 use Rattle.lists.specs.Lists.{part}
-use Rattle.lists.proofs.Cases.{same-or}
+use Rattle.lists.proofs.Cases.{below-or, same-or}
 use Rattle.lists.proofs.Splice.{length-part, getD-part}
 use Rattle.sectors.specs.Sectors.{startOf, sectorOf}
 use Rattle.chain.specs.Bytes.{chainBytes}
@@ -22,6 +22,7 @@ use Rattle.moves.proofs.Linking.{one-count, one-free, one-sectors, one-fits, on
 use Rattle.moves.proofs.Extending.{extend-none, extend-more}
 use Rattle.moves.proofs.Changing.{chain-listed, chain-id}
 use Rattle.moves.proofs.Staying.{ready-least, taken-other, one-ids-at, one-ids-last, one-frees-at}
+use Rattle.edits.specs.Order.{addedFat, addedDifat}
 use Rattle.edits.specs.Roles.{Roles, fatsHeld, difatsHeld}
 use Rattle.edits.specs.Untouched.{Beside, Untouched, Other}
 use Rattle.edits.proofs.Listed.{listed-stays, listed-none}
@@ -145,6 +146,43 @@ extend-begins S R zero c f =
     rw extend-none
     (record { fats-more = omega arith; difats-more = omega arith; ids-more = omega arith; fats-stay = λ p l. refl; difats-stay = λ p l. refl; ids-stay = λ p l. refl })
 extend-begins S R (suc m) c f = rw extend-more (begins-then (one-begins f) (extend-begins S R m (extendOne S c) (one-fits f)))
+
+-- the sectors that the FAT and the DIFAT get stand where document 01 says
+pub extended-fats : (S R m : ℕ) (c : Chain) → FitsMore S R m c → (p : ℕ) → fatsHeld S (c .hand .disk) ≤ p → p < fatsHeld S (extend S c m .hand .disk)
+    → getD (extend S c m .hand .disk .fats) p 0 ≡ addedFat S p
+extended-fats S R zero c f p h l = let l' : p < fatsHeld S (c .hand .disk) = rw extend-none at l in absurd (omega (arith, h, l'))
+extended-fats S R (suc m) c f p h l =
+    let l' : p < fatsHeld S (extend S (extendOne S c) m .hand .disk) = rw extend-more at l in
+    rw extend-more
+    (⊎-elim
+    (λ (k : p < fatsHeld S (extendOne S c .hand .disk)).
+    let g = one-grown f in
+    extend-begins S R m (extendOne S c) (one-fits f) .fats-stay p k
+    ∙ ⊎-elim
+    (λ (a : (p < fatsHeld S (c .hand .disk)) × (getD (extendOne S c .hand .disk .fats) p 0 ≡ getD (c .hand .disk .fats) p 0)). absurd (omega (arith, h, a .0)))
+    (λ (a : (p ≡ fatsHeld S (c .hand .disk)) × (getD (extendOne S c .hand .disk .fats) p 0 ≡ g .fat)).
+    a .1 ∙ g .fat-place (omega (arith, a .0, k)) ∙ ap (addedFat S) (sym (a .0)))
+    (g .fats .at p k))
+    (λ (k : fatsHeld S (extendOne S c .hand .disk) ≤ p). extended-fats S R m (extendOne S c) (one-fits f) p k l')
+    (below-or p (fatsHeld S (extendOne S c .hand .disk))))
+
+pub extended-difats : (S R m : ℕ) (c : Chain) → FitsMore S R m c → (q : ℕ) → difatsHeld S (c .hand .disk) ≤ q → q < difatsHeld S (extend S c m .hand .disk)
+    → getD (extend S c m .hand .disk .difats) q 0 ≡ addedDifat S q
+extended-difats S R zero c f q h l = let l' : q < difatsHeld S (c .hand .disk) = rw extend-none at l in absurd (omega (arith, h, l'))
+extended-difats S R (suc m) c f q h l =
+    let l' : q < difatsHeld S (extend S (extendOne S c) m .hand .disk) = rw extend-more at l in
+    rw extend-more
+    (⊎-elim
+    (λ (k : q < difatsHeld S (extendOne S c .hand .disk)).
+    let g = one-grown f in
+    extend-begins S R m (extendOne S c) (one-fits f) .difats-stay q k
+    ∙ ⊎-elim
+    (λ (a : (q < difatsHeld S (c .hand .disk)) × (getD (extendOne S c .hand .disk .difats) q 0 ≡ getD (c .hand .disk .difats) q 0)). absurd (omega (arith, h, a .0)))
+    (λ (a : (q ≡ difatsHeld S (c .hand .disk)) × (getD (extendOne S c .hand .disk .difats) q 0 ≡ g .difat)).
+    a .1 ∙ g .difat-place (omega (arith, a .0, k)) ∙ ap (addedDifat S) (sym (a .0)))
+    (g .difats .at q k))
+    (λ (k : difatsHeld S (extendOne S c .hand .disk) ≤ q). extended-difats S R m (extendOne S c) (one-fits f) q k l')
+    (below-or q (difatsHeld S (extendOne S c .hand .disk))))
 
 -- what is untouched after more is listed was before
 untouched-before : (S : ℕ) (c e : Chain) (b : ℕ) → Begins S c e → Untouched S e b → Untouched S c b

@@ -1,16 +1,17 @@
 -- Which sectors the FAT and the DIFAT have after a sector is taken: those that they had, and one more where document 01 asks for it. Assumes nothing.
-use Prim.Native.Nat.{ℕ, suc, _+_, _-_, _/_, _%_, _≤_, _<_}
+use Prim.Native.Nat.{ℕ, suc, _+_, _-_, _*_, _/_, _%_, _≤_, _<_}
 use mathlib.Core.Path.{_≡_, refl, _∙_, sym, ap}
 use mathlib.Core.Bool.{true, false}
 use mathlib.Core.List.{List}
 use mathlib.Core.Logic.{⊎-elim, _≢_}
 use native.Mathlib.Omega.{arith}
-use native.Mathlib.Nat.{div-le-self}
+use native.Mathlib.Nat.{div-le-self, div-mul-le-self, div-add-mod, mul-comm}
 use borrow.Author.Tests.{lt-ltb, le-ltb}
 use lib.ListN.{getD, set}
 use Rattle.lists.proofs.Cases.{below-or, same-or, true-or, not-both}
 use Rattle.sectors.specs.Sectors.{perSector}
-use Rattle.fat.specs.Lists.{fatCount, difatCount}
+use Rattle.fat.specs.Lists.{ceil, fatCount, difatCount}
+use Rattle.fat.proofs.Listing.{ceil-enough}
 use Rattle.moves.specs.Disk.{Disk, store, setFat, pushFat, listFat, listDifat, appendDifat, needsDifat, storePlace, holdPlace, listPlace, appendFat, afterFat, oneMore, ready, newSector}
 use Rattle.moves.specs.Hand.{Hand, Chain, reused, point, takenId, takeSector, linked, extendOne}
 use Rattle.moves.specs.Fits.{FitsFat, FitsNew, FitsHand, FitsMore}
@@ -18,6 +19,7 @@ use Rattle.moves.proofs.Counting.{fat-full, difat-none, difat-suc, needs-full, 
 use Rattle.moves.proofs.Fitting.{append-sectors, ready-full, ready-part, new-sectors, new-full, count-full, count-part, full-many, full-place, reused-sectors}
 use Rattle.moves.proofs.Taking.{take-none, take-one, id-new, id-last}
 use Rattle.moves.proofs.Linking.{linked-none, linked-last, more-room}
+use Rattle.edits.specs.Order.{addedFat, addedDifat}
 use Rattle.edits.specs.Roles.{fatsHeld, difatsHeld}
 use Rattle.edits.proofs.Listed.{Listed, listed-same, listed-more}
 
@@ -34,6 +36,8 @@ pub record Grown (S : ℕ) (d : Disk) (k j : ℕ) (fats' difats' : List ℕ) (id
   pub fat-difat : fat ≢ difat
   pub fat-id : fat ≢ id
   pub difat-id : difat ≢ id
+  pub fat-place : fatsHeld S d < k → fat ≡ addedFat S (fatsHeld S d)
+  pub difat-place : difatsHeld S d < j → difat ≡ addedDifat S (difatsHeld S d)
 
 -- the same by equal numbers and lists
 grown-at : {S : ℕ} {d : Disk} {k j k' j' : ℕ} {fats difats fats' difats' : List ℕ} {id id' : ℕ} → k' ≡ k → j' ≡ j → fats' ≡ fats → difats' ≡ difats → id' ≡ id
@@ -60,6 +64,8 @@ grown-none S d k j fats difats id f g hk hj h =
       fat-difat = omega arith;
       fat-id = omega (arith, h);
       difat-id = omega (arith, h);
+      fat-place = λ l. absurd (omega (arith, l, hk));
+      difat-place = λ l. absurd (omega (arith, l, hj));
     }
 
 -- a place of the DIFAT leaves the FAT's list, and the DIFAT's too where no DIFAT sector is needed
@@ -85,6 +91,14 @@ needs-far S p t =
     (λ (far : 109 ≤ p). far)
     (below-or p 109)
 
+-- and the DIFAT sectors that there are hold the places before it
+places-full : (S p : ℕ) → 2 ≤ perSector S → needsDifat S p ≡ true → (p - 109) / (perSector S - 1) * (perSector S - 1) ≡ p - 109
+unfolding difatCount
+places-full S p two t =
+    let some : 1 ≤ perSector S - 1 = omega (arith, two) in
+    let e : ceil (p - 109) (perSector S - 1) * (perSector S - 1) ≡ (p - 109) / (perSector S - 1) * (perSector S - 1) = ap (λ (q : ℕ). q * (perSector S - 1)) (needs-full S p two t) in
+    omega (arith, e, ceil-enough (p - 109) (perSector S - 1) some .0, div-mul-le-self (p - 109) (perSector S - 1))
+
 place-difats-more : (S p id : ℕ) (d : Disk) → needsDifat S p ≡ true → listPlace S d p id .difats ≡ set (d .difats) ((p - 109) / (perSector S - 1)) (d .sectors)
 unfolding listPlace storePlace store holdPlace appendDifat pushFat listDifat
 place-difats-more S p id d t = rw (le-ltb p 109 (needs-far S p t), t) refl
@@ -107,6 +121,12 @@ append-difats-more S d t = place-difats-more S (d .sectors / perSector S) (d .se
 module _ (S R : ℕ) (d : Disk) (f : FitsFat S R d) where
   count-is : fatsHeld S d ≡ d .sectors / perSector S
   count-is = fat-full S (d .sectors) (omega (arith, full-many S R d f)) (f .full)
+
+  -- a full FAT: n is E times its sectors
+  sector-full : d .sectors ≡ fatsHeld S d * perSector S
+  sector-full =
+      let e : fatsHeld S d * perSector S ≡ d .sectors / perSector S * perSector S = ap (λ (q : ℕ). q * perSector S) count-is in
+      omega (arith, e, mul-comm (d .sectors / perSector S) (perSector S), div-add-mod (d .sectors) (perSector S), f .full)
 
   fats-listed : Listed (d .fats) (appendFat S d .fats) (fatsHeld S d) (suc (d .sectors / perSector S)) (d .sectors)
   fats-listed =
@@ -139,6 +159,8 @@ module _ (S R : ℕ) (d : Disk) (f : FitsFat S R d) where
         fat-difat = omega arith;
         fat-id = omega arith;
         difat-id = omega arith;
+        fat-place = λ l. sector-full;
+        difat-place = λ l. absurd (omega (arith, l, same));
       }
 
   pub append-grown-difat : needsDifat S (d .sectors / perSector S) ≡ true
@@ -163,6 +185,11 @@ module _ (S R : ℕ) (d : Disk) (f : FitsFat S R d) where
         fat-difat = omega arith;
         fat-id = omega arith;
         difat-id = omega arith;
+        fat-place = λ l. sector-full;
+        difat-place = λ l.
+            let at : fatsHeld S d ≡ 109 + difatsHeld S d * (perSector S - 1)
+            = omega (arith, count-is, places-full S (d .sectors / perSector S) two t, ap (λ (q : ℕ). q * (perSector S - 1)) was, needs-far S (d .sectors / perSector S) t) in
+            omega (arith, sector-full, ap (λ (q : ℕ). q * perSector S) at);
       }
 
 -- how many there are when a new sector is taken, by whether the FAT is full

@@ -1,5 +1,6 @@
 pub mod Changed
 pub mod Edits
+pub mod Examples
 pub mod Extended
 pub mod Freed
 pub mod Growing
