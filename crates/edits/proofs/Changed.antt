@@ -33,6 +33,11 @@ use Rattle.edits.proofs.Joining.{sector-stays, chain-stays, other-untou
 use Rattle.edits.proofs.Extended.{extended-bytes, extended-spares, extended-other}
 use Rattle.edits.proofs.Shrunk.{shrunk-untouched, shrunk-sector, shrunk-bytes, shrunk-other}
 
+-- a resize that asks for a sector more asks for more than there are
+pub resize-asks : (S : ℕ) (c : Chain) (len i : ℕ) → i < resizeMore S (c .count) len → c .count < ceil len S
+unfolding resizeMore
+resize-asks S c len i l = omega (arith, l)
+
 -- how many bytes a chain has
 pub bytes-counted : (S R : ℕ) (c : Chain) → FitsChain S R c → length (chainBytes S (c .hand .disk .image) (idsOf c)) ≡ S * c .count
 bytes-counted S R c f =

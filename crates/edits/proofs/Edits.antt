@@ -16,10 +16,10 @@ use Rattle.chain.specs.Bytes.{chainBytes}
 use Rattle.chain.proofs.Apart.{sector-before, sector-other}
 use Rattle.moves.specs.Hand.{Chain, extend}
 use Rattle.moves.specs.Fits.{FitsChain, FitsMore}
-use Rattle.moves.specs.Change.{shrink, idsOf, resized, writeMore, written, FitsShrink, FitsResize, FitsWrite}
+use Rattle.moves.specs.Change.{shrink, withImage, idsOf, resizeMore, resized, writeMore, written, FitsShrink, FitsResize, FitsWrite}
 use Rattle.moves.proofs.Extending.{extend-count, extend-fits, extend-long}
 use Rattle.moves.proofs.Shrinking.{shrink-ids, shrink-long}
-use Rattle.moves.proofs.Changing.{resized-fits, resized-count, resized-long, written-fits, written-count, written-long}
+use Rattle.moves.proofs.Changing.{resized-more, resized-fewer, resize-shrink, resized-fits, resized-count, resized-long, written-fits, written-count, written-long}
 use Rattle.edits.specs.Order.{takenAt, addedFat, addedDifat}
 use Rattle.edits.specs.Roles.{Roles, fatsHeld, difatsHeld}
 use Rattle.edits.specs.Untouched.{Beside, Untouched, Others}
@@ -27,7 +27,7 @@ use Rattle.edits.proofs.Order.{extend-ids-stay, extend-taken, extend-fr
 use Rattle.edits.proofs.Joining.{other-aside}
 use Rattle.edits.proofs.Extended.{extend-begins, extended-fats, extended-difats, extended-bytes, extended-spares, extended-other}
 use Rattle.edits.proofs.Shrunk.{shrunk-spares, shrunk-untouched, shrunk-sector, shrunk-bytes, shrunk-other}
-use Rattle.edits.proofs.Changed.{bytes-counted, others-stay, resized-holds, resized-spares, resized-other, freed-sector, written-holds, written-spares, written-other}
+use Rattle.edits.proofs.Changed.{resize-asks, bytes-counted, others-stay, resized-holds, resized-spares, resized-other, freed-sector, written-holds, written-spares, written-other}
 
 -- Which sectors are taken, and in which order.
 
@@ -76,6 +76,27 @@ module _ (S R m : ℕ) (c : Chain) (f : FitsShrink S R m c) where
   -- document 01: freed sectors join the list in chain order
   pub freed-order : (i : ℕ) → i < c .count - m → getD (shrink S c m .hand .frees) (c .hand .free + i) 0 ≡ getD (c .ids) (m + i) 0
   freed-order = shrink-freed S R m c f
+
+-- The same of a chain that is resized and of one that is written: what is stored in its bytes moves no sector.
+
+-- document 01, Resize: more sectors are taken in this order,
+pub resized-taken : (S R len : ℕ) (c : Chain) → FitsResize S R len c → (i : ℕ) → i < resizeMore S (c .count) len
+    → getD (resized S c len .ids) (c .count + i) 0 ≡ takenAt S (c .hand .disk .sectors) (c .hand .frees) (c .hand .free) i
+resized-taken S R len c f i l = rw (resized-more S c len (resize-asks S c len i l)) (taken-order S R (resizeMore S (c .count) len) c (f .fits) i l)
+
+-- and the tail is freed in this one
+pub resized-freed : (S R len : ℕ) (c : Chain) → FitsResize S R len c → (i : ℕ) → i < c .count - ceil len S
+    → getD (resized S c len .hand .frees) (c .hand .free + i) 0 ≡ getD (c .ids) (ceil len S + i) 0
+unfolding withImage
+resized-freed S R len c f i l =
+    let fewer : ceil len S ≤ c .count = omega (arith, l) in
+    rw (resized-fewer S c len fewer) (freed-order S R (ceil len S) c (resize-shrink S R len c f (ceil len S) fewer) i l)
+
+-- document 01, Write
+pub written-taken : (S R offset : ℕ) (buf : List ℕ) (c : Chain) → FitsWrite S R offset (length buf) c → (i : ℕ) → i < writeMore S (c .count) offset (length buf)
+    → getD (written S c offset buf .ids) (c .count + i) 0 ≡ takenAt S (c .hand .disk .sectors) (c .hand .frees) (c .hand .free) i
+unfolding written withImage
+written-taken S R offset buf c f i l = taken-order S R (writeMore S (c .count) offset (length buf)) c (f .fits) i l
 
 -- The bytes of the chain.
 
