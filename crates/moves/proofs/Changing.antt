@@ -27,7 +27,7 @@ use Rattle.moves.proofs.Extending.{chainOf, extend-none, extend-fits, e
 
 -- numbers of a chain in hand are small
 module _ (S R : ℕ) (c : Chain) (f : FitsChain S R c) where
-  chain-few : c .count ≤ R
+  pub chain-few : c .count ≤ R
   chain-few = omega (arith, f .few, f .fits .disk .inside)
 
   pub chain-small : c .count + c .hand .free ≤ most
@@ -40,11 +40,11 @@ module _ (S R : ℕ) (c : Chain) (f : FitsChain S R c) where
   pub chain-room : c .count ≤ length (c .ids)
   chain-room = omega (arith, chain-few, f .ids-long)
 
-  chain-listed : length (idsOf c) ≡ c .count
+  pub chain-listed : length (idsOf c) ≡ c .count
   unfolding idsOf
   chain-listed = length-take-le (c .count) (c .ids) chain-room
 
-  chain-id : (j : ℕ) → j < c .count → getD (idsOf c) j 0 ≡ getD (c .ids) j 0
+  pub chain-id : (j : ℕ) → j < c .count → getD (idsOf c) j 0 ≡ getD (c .ids) j 0
   unfolding idsOf
   chain-id j l = getD-take (c .count) (c .ids) j 0 l
 

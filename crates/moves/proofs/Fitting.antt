@@ -183,7 +183,7 @@ module _ (S R : ℕ) (d : Disk) (f : FitsNew S R d) where
   pub ready-has : ready S d .sectors / perSector S < fatCount S (oneMore S (d .sectors))
   ready-has = fat-has S (oneMore S (d .sectors)) (ready S d .sectors) (omega (arith, new-many)) (omega (arith, ready-sectors S d))
 
-  count-full : d .sectors % perSector S ≡ 0 → fatCount S (oneMore S (d .sectors)) ≡ suc (d .sectors / perSector S)
+  pub count-full : d .sectors % perSector S ≡ 0 → fatCount S (oneMore S (d .sectors)) ≡ suc (d .sectors / perSector S)
   count-full e =
       let few = after-few S (d .sectors) in
       let near : d .sectors + (afterFat S (d .sectors) - d .sectors) ≡ afterFat S (d .sectors) = omega (arith, few .0) in
@@ -192,7 +192,7 @@ module _ (S R : ℕ) (d : Disk) (f : FitsNew S R d) where
       ∙ ap suc (ap (λ (n : ℕ). n / perSector S) (sym near)
       ∙ div-near (perSector S) (omega (arith, new-many)) (d .sectors) (afterFat S (d .sectors) - d .sectors) e (omega (arith, few .1, new-many)))
 
-  count-part : d .sectors % perSector S ≢ 0 → fatCount S (oneMore S (d .sectors)) ≡ fatCount S (d .sectors)
+  pub count-part : d .sectors % perSector S ≢ 0 → fatCount S (oneMore S (d .sectors)) ≡ fatCount S (d .sectors)
   count-part e =
       let some : 1 ≤ perSector S = omega (arith, new-many) in
       ap (fatCount S) (one-part S (d .sectors) e) ∙ fat-suc S (d .sectors) some ∙ sym (fat-part S (d .sectors) some e)

@@ -48,10 +48,10 @@ shrink-some S c m h = rw (lt-ltb m (c .count) h)
 
 -- a chain that can be cut behind m of its sectors
 module _ (S R m : ℕ) (c : Chain) (f : FitsShrink S R m c) where
-  shrink-place : m ≤ length (c .ids)
+  pub shrink-place : m ≤ length (c .ids)
   shrink-place = omega (arith, f .within, f .fits .few, f .fits .fits .disk .inside, f .fits .ids-long)
 
-  shrink-last : 0 < m → getD (c .ids) (m - 1) 0 < c .hand .disk .sectors
+  pub shrink-last : 0 < m → getD (c .ids) (m - 1) 0 < c .hand .disk .sectors
   shrink-last e = f .fits .within (m - 1) (omega (arith, e, f .within))
 
   pub shrink-cut : FitsLast S (c .hand .disk .sectors) (length (c .hand .disk .image)) (length (c .hand .disk .fat)) (c .hand .disk .fats) (length (c .hand .marks)) (c .ids) m
@@ -60,10 +60,10 @@ module _ (S R m : ℕ) (c : Chain) (f : FitsShrink S R m c) where
   abbrev cutOf : Hand
   cutOf = cut S (c .hand) (c .ids) m
 
-  cut-fits : FitsHand S R cutOf
+  pub cut-fits : FitsHand S R cutOf
   cut-fits = linked-fits S (c .hand) (c .ids) m endOfChain R shrink-last (f .fits .fits)
 
-  cut-counts : (cutOf .disk .sectors ≡ c .hand .disk .sectors) × (cutOf .free ≡ c .hand .free)
+  pub cut-counts : (cutOf .disk .sectors ≡ c .hand .disk .sectors) × (cutOf .free ≡ c .hand .free)
   cut-counts = linked-counts S (c .hand) (c .ids) m endOfChain
 
   cut-chain : FitsChain S R (record { hand = cutOf; ids = c .ids; count = c .count })

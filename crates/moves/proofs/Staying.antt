@@ -22,11 +22,11 @@ pub ready-least : (S : ℕ) (d : Disk) → d .sectors ≤ ready S d .sectors
 ready-least S d = omega (arith, ready-sectors S d, one-more-between S (d .sectors) .0)
 
 -- pointing and linking leave the free list
-point-frees : (S : ℕ) (h : Hand) (i v : ℕ) → point S h i v .frees ≡ h .frees
+pub point-frees : (S : ℕ) (h : Hand) (i v : ℕ) → point S h i v .frees ≡ h .frees
 unfolding point
 point-frees S h i v = refl
 
-linked-frees : (S : ℕ) (h : Hand) (ids : List ℕ) (count id : ℕ) → linked S h ids count id .frees ≡ h .frees
+pub linked-frees : (S : ℕ) (h : Hand) (ids : List ℕ) (count id : ℕ) → linked S h ids count id .frees ≡ h .frees
 linked-frees S h ids count id =
     ⊎-elim
     (λ (e : count ≡ 0). rw (linked-none S h ids count id e))
@@ -34,27 +34,27 @@ linked-frees S h ids count id =
     (same-or count 0)
 
 -- the sectors that stay FREE stay where they are listed
-take-frees-at : (S : ℕ) (h : Hand) (j : ℕ) → j < h .free - 1 → getD (takeSector S h .frees) j 0 ≡ getD (h .frees) j 0
+pub take-frees-at : (S : ℕ) (h : Hand) (j : ℕ) → j < h .free - 1 → getD (takeSector S h .frees) j 0 ≡ getD (h .frees) j 0
 take-frees-at S h j l =
     let e : h .free ≢ 0 = omega arith in
     rw (take-one S h e) (getD-set-other (h .frees) (h .free - 1) j 0 0 (omega arith))
 
-one-frees-at : (S : ℕ) (c : Chain) (j : ℕ) → j < c .hand .free - 1 → getD (extendOne S c .hand .frees) j 0 ≡ getD (c .hand .frees) j 0
+pub one-frees-at : (S : ℕ) (c : Chain) (j : ℕ) → j < c .hand .free - 1 → getD (extendOne S c .hand .frees) j 0 ≡ getD (c .hand .frees) j 0
 unfolding extendOne
 one-frees-at S c j l = rw (linked-frees S (takeSector S (c .hand)) (c .ids) (c .count) (takenId S (c .hand))) (take-frees-at S (c .hand) j l)
 
 -- and so do the ids of the chain
-one-ids-at : (S : ℕ) (c : Chain) (j : ℕ) → j < c .count → getD (extendOne S c .ids) j 0 ≡ getD (c .ids) j 0
+pub one-ids-at : (S : ℕ) (c : Chain) (j : ℕ) → j < c .count → getD (extendOne S c .ids) j 0 ≡ getD (c .ids) j 0
 unfolding extendOne
 one-ids-at S c j l = getD-set-other (c .ids) (c .count) j (takenId S (c .hand)) 0 (omega arith)
 
-one-ids-last : (S : ℕ) (c : Chain) → c .count < length (c .ids) → getD (extendOne S c .ids) (c .count) 0 ≡ takenId S (c .hand)
+pub one-ids-last : (S : ℕ) (c : Chain) → c .count < length (c .ids) → getD (extendOne S c .ids) (c .count) 0 ≡ takenId S (c .hand)
 unfolding extendOne
 one-ids-last S c l = getD-set-same (c .ids) (c .count) (takenId S (c .hand)) 0 l
 
 -- the sector that is taken is none of the chain's, and is FREE no more
 module _ (S R : ℕ) (c : Chain) (f : FitsChain S R c) (a : Apart c) where
-  taken-other : (i : ℕ) → i < c .count → getD (c .ids) i 0 ≢ takenId S (c .hand)
+  pub taken-other : (i : ℕ) → i < c .count → getD (c .ids) i 0 ≢ takenId S (c .hand)
   taken-other i l =
       ⊎-elim
       (λ (e : c .hand .free ≡ 0). λ (q : getD (c .ids) i 0 ≡ takenId S (c .hand)).
@@ -63,7 +63,7 @@ module _ (S R : ℕ) (c : Chain) (f : FitsChain S R c) (a : Apart c) where
       a .ids-frees i (c .hand .free - 1) l (omega (arith, e)) (q ∙ id-last S (c .hand) e))
       (same-or (c .hand .free) 0)
 
-  taken-gone : (j : ℕ) → j < c .hand .free - 1 → takenId S (c .hand) ≢ getD (c .hand .frees) j 0
+  pub taken-gone : (j : ℕ) → j < c .hand .free - 1 → takenId S (c .hand) ≢ getD (c .hand .frees) j 0
   taken-gone j l q =
       let e : c .hand .free ≢ 0 = omega arith in
       let s : c .hand .free - 1 ≡ j = a .frees-once (c .hand .free - 1) j (omega arith) (omega arith) (sym (id-last S (c .hand) e) ∙ q) in

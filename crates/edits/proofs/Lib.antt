@@ -1,0 +1,13 @@
+pub mod Changed
+pub mod Edits
+pub mod Examples
+pub mod Extended
+pub mod Freed
+pub mod Growing
+pub mod Joining
+pub mod Listed
+pub mod Order
+pub mod Roles
+pub mod Shrunk
+pub mod Sparing
+pub mod Taking

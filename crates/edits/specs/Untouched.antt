@@ -1,0 +1,44 @@
+-- Which bytes of an image a change leaves alone (document 01, "Calls on a chain"), over the sector's length S. Assumes nothing.
+use Prim.Native.Nat.{ℕ, _+_, _≤_, _<_}
+use mathlib.Core.List.{List}
+use mathlib.Core.Logic.{_⊎_, _≢_}
+use lib.ListN.{length, getD}
+use Rattle.header.specs.Fields.{fatsAt, difatAt, offsetOf, widthOf}
+use Rattle.sectors.specs.Sectors.{startOf}
+use Rattle.moves.specs.Disk.{Disk}
+use Rattle.moves.specs.Hand.{Chain}
+use Rattle.edits.specs.Roles.{fatsHeld, difatsHeld}
+
+-- byte b does not stand in sector i
+abbrev pub Beside : ℕ → ℕ → ℕ → Type 0
+Beside S i b = (b < startOf S i) ⊎ (startOf S i + S ≤ b)
+
+-- byte b is in none of the header's fields that a change stores, and in none of the k sectors of the FAT and the j of the DIFAT
+pub record Spared (S : ℕ) (fats : List ℕ) (k : ℕ) (difats : List ℕ) (j b : ℕ) : Type 0 where
+  -- document 01: header 44, the FAT's count
+  pub fat-field : (b < offsetOf fatsAt) ⊎ (offsetOf fatsAt + widthOf fatsAt ≤ b)
+  -- document 01: header 68 and 72, the DIFAT's first sector and its count, and the list from 76 on, up to 512
+  pub difat-fields : (b < offsetOf difatAt) ⊎ (512 ≤ b)
+  pub in-no-fat : (p : ℕ) → p < k → Beside S (getD fats p 0) b
+  pub in-no-difat : (p : ℕ) → p < j → Beside S (getD difats p 0) b
+
+-- by the lists of a disk
+abbrev pub Aside : ℕ → Disk → ℕ → Type 0
+Aside S d b = Spared S (d .fats) (fatsHeld S d) (d .difats) (difatsHeld S d) b
+
+-- and in no sector of the chain
+pub record Untouched (S : ℕ) (c : Chain) (b : ℕ) : Type 0 where
+  pub aside : Aside S (c .hand .disk) b
+  pub in-no-id : (p : ℕ) → p < c .count → Beside S (getD (c .ids) p 0) b
+
+-- sector i belongs to another: it is neither FAT, DIFAT, one of the chain's nor FREE
+pub record Other (S : ℕ) (c : Chain) (i : ℕ) : Type 0 where
+  pub inside : i < c .hand .disk .sectors
+  pub no-fat : (p : ℕ) → p < fatsHeld S (c .hand .disk) → getD (c .hand .disk .fats) p 0 ≢ i
+  pub no-difat : (p : ℕ) → p < difatsHeld S (c .hand .disk) → getD (c .hand .disk .difats) p 0 ≢ i
+  pub no-id : (p : ℕ) → p < c .count → getD (c .ids) p 0 ≢ i
+  pub no-free : (p : ℕ) → p < c .hand .free → getD (c .hand .frees) p 0 ≢ i
+
+-- a list of such sectors
+pub record Others (S : ℕ) (c : Chain) (others : List ℕ) : Type 0 where
+  pub each : (j : ℕ) → j < length others → Other S c (getD others j 0)
