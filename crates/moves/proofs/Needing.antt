@@ -4,7 +4,7 @@ use mathlib.Core.Path.{_≡_, _∙_, sym, ap}
 use mathlib.Core.Bool.{Bool, true, false}
 use mathlib.Core.Logic.{_⊎_, inl, inr, ⊎-elim, _≢_}
 use native.Mathlib.Omega.{arith}
-use native.Mathlib.Nat.{sub-zero, add-mul, one-mul, mul-comm, mul-le-mul-left, mul-le-mul-right, div-mul-le-self, mul-add-div-right, div-add-mod, mod-lt}
+use native.Mathlib.Nat.{sub-zero, add-mul, one-mul, mul-comm, mul-le-mul-left, mul-le-mul-right, div-mul-le-self, mul-add-div-right, div-add-mod, mod-lt, add-zero, div-eq-of-lt}
 use borrow.Author.Tests.{eq-eqb, ne-eqb, lt-leb}
 use lib.Dec.{leb}
 use Rattle.lists.specs.Lists.{choose}
@@ -32,6 +32,23 @@ ceil-left a b h =
 -- what is left is less than a part
 pub left-less : (a b : ℕ) → 1 ≤ b → a - a / b * b < b
 left-less a b h = omega (arith, div-add-mod a b, mul-comm b (a / b), mod-lt a h)
+
+-- a number of whole parts is itself rounded up, and any other one more
+ceil-parts : (q b r : ℕ) → 1 ≤ b → r < b → (q * b + r) / b ≡ q
+ceil-parts q b r h l = mul-add-div-right {m = b} h q r ∙ rw (div-eq-of-lt l, add-zero)
+
+pub ceil-whole : (a b : ℕ) → 1 ≤ b → a % b ≡ 0 → a / b ≡ ceil a b
+unfolding ceil
+ceil-whole a b h e =
+    let whole : a + (b - 1) ≡ a / b * b + (b - 1) = omega (arith, div-add-mod a b, mul-comm b (a / b)) in
+    sym (rw whole (ceil-parts (a / b) b (b - 1) h (omega arith)))
+
+pub ceil-part : (a b : ℕ) → 1 ≤ b → a % b ≢ 0 → a / b + 1 ≡ ceil a b
+unfolding ceil
+ceil-part a b h d =
+    let some : 1 ≤ a % b = omega arith in
+    let whole : a + (b - 1) ≡ (a / b + 1) * b + (a % b - 1) = omega (arith, div-add-mod a b, mul-comm b (a / b), add-mul (a / b) 1 b, one-mul b) in
+    sym (rw whole (ceil-parts (a / b + 1) b (a % b - 1) h (omega (arith, mod-lt a h))))
 
 -- what c whole parts hold asks for no more than c, and what is over is rounded up by itself
 pub ceil-within : (a b c : ℕ) → 1 ≤ b → a ≤ b * c → ceil a b ≤ c
