@@ -45,7 +45,7 @@ module _ (m : Validation) (img : List ℕ) (used short : ℕ) (z : openNo m img 
   n = sectorsIn S used
 
   -- an image that opens passes both parts of the rows
-  parts : (refusal (firstRows m img used short) ≡ 0) × (refusal (tableRows (isStrict m) S img (headerOf img) n) ≡ 0)
+  pub parts : (refusal (firstRows m img used short) ≡ 0) × (refusal (tableRows (isStrict m) S img (headerOf img) n) ≡ 0)
   unfolding openNo openRows firstRows headerRows distinct fresh
   parts = append-accepts (firstRows m img used short) _ refl .0 z
 

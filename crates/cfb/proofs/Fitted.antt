@@ -62,20 +62,21 @@ difats-some S k h = omega (arith, ceil-few (k - 109) (perSector S - 1) (omega ar
 held-below : (n : ℕ) (xs table : List ℕ) (p : ℕ) → table ≡ padded xs (length table) → ((i : ℕ) → i < length xs → getD xs i 0 < n) → p < length xs → getD table p 0 < n
 held-below n xs table p e low h = rw (ap (λ (l : List ℕ). getD l p 0) e ∙ padded-front xs (length table) p h) (low p h)
 
+-- as many sectors of the FAT and of the DIFAT are listed as n sectors need
+pub length-fats : (S : ℕ) (img : List ℕ) (h : Header) (n : ℕ) → length (fatsIn S img h n) ≡ fatCount S n
+unfolding fatsIn fatsOf
+length-fats S img h n = length-tab _ (fatCount S n)
+
+pub length-difats : (S : ℕ) (img : List ℕ) (h : Header) (n : ℕ) → length (difatsIn S img h n) ≡ difatCount S (fatCount S n)
+unfolding difatsIn difatsOf
+length-difats S img h n = length-tab _ (difatCount S (fatCount S n))
+
 module _ (m : Validation) (img : List ℕ) (used free : ℕ) (t : Tables) (z : openNo m img used (shortest t) ≡ 0) where
   abbrev S : ℕ
   S = lengthOf (headerOf img .version)
 
   abbrev n : ℕ
   n = sectorsIn S used
-
-  long-fats : length (fatsIn S img (headerOf img) n) ≡ fatCount S n
-  unfolding fatsIn fatsOf
-  long-fats = length-tab _ (fatCount S n)
-
-  long-difats : length (difatsIn S img (headerOf img) n) ≡ difatCount S (fatCount S n)
-  unfolding difatsIn difatsOf
-  long-difats = length-tab _ (difatCount S (fatCount S n))
 
   -- the hand of an image that opens, with tables that hold what it gives and are long enough
   own-fits : Held n (openTables S img (headerOf img) n) free t → roomOf S (length img) ≤ shortest t
@@ -100,8 +101,8 @@ module _ (m : Validation) (img : List ℕ) (used free : ℕ) (t : Tables) (z : o
           difats-long = omega (arith, all);
           fats-many = omega arith;
           difats-many = omega arith;
-          fats-below = λ p h. held-below n (fatsIn S img (headerOf img) n) (t .fats) p (held-in .fats) (below-at n (fatsIn S img (headerOf img) n) (fats-open m img used (shortest t) z)) (omega (arith, long-fats));
-          difats-below = λ p h. held-below n (difatsIn S img (headerOf img) n) (t .difats) p (held-in .difats) (below-at n (difatsIn S img (headerOf img) n) (difats-open m img used (shortest t) z)) (omega (arith, long-difats));
+          fats-below = λ p h. held-below n (fatsIn S img (headerOf img) n) (t .fats) p (held-in .fats) (below-at n (fatsIn S img (headerOf img) n) (fats-open m img used (shortest t) z)) (omega (arith, length-fats S img (headerOf img) n));
+          difats-below = λ p h. held-below n (difatsIn S img (headerOf img) n) (t .difats) p (held-in .difats) (below-at n (difatsIn S img (headerOf img) n) (difats-open m img used (shortest t) z)) (omega (arith, length-difats S img (headerOf img) n));
         };
         frees-long = omega (arith, all);
         marks-long = omega (arith, all);

@@ -5,7 +5,7 @@ use mathlib.Core.Bool.{Bool, true, false}
 use mathlib.Core.List.{List, [], _∷_}
 use mathlib.Core.Logic.{_⊎_, inl, inr, ⊎-elim, _≢_}
 use native.Mathlib.Omega.{arith}
-use borrow.Author.Tests.{ltb-false, lt-ltb, le-ltb}
+use borrow.Author.Tests.{ltb-false, lt-ltb, le-ltb, not-false}
 use lib.Dec.{ltb}
 use lib.ListN.{length, getD, take, replicate, length-append, length-replicate, List·getD-eq-default}
 use lib.Seq.{getD-take, length-take-le}
@@ -101,14 +101,18 @@ module _ (s : State) (img : List ℕ) (t : Tables) (room start : ℕ) (z : chang
       not-19 : chainNo s img t room start ≢ 19
       not-19 e = omega (arith, z, e, refused-early s img t room start (inr e))
 
+  pub strict-mode : isStrict (s .mode) ≡ true
+  unfolding changeNo changeRows agreedRows walkRows distinct fresh
+  strict-mode = not-false _ (given-none (changeRows s img t room start) refl z 2 (omega arith))
+
   pub long-enough : R ≤ min (shortest t) room
   unfolding changeNo changeRows agreedRows walkRows distinct fresh
   long-enough = ltb-false (min (shortest t) room) R (given-none (changeRows s img t room start) refl z 0 (omega arith))
 
-  agrees : Agreed s img t
+  pub agrees : Agreed s img t
   agrees = agrees-exactly (s .mode) img (s .used) (s .sectors) (s .free) (s .header) t .0 (agreed s img t room start chain-zero)
 
-  chained : Chained S img (t .fat) (s .sectors)
+  pub chained : Chained S img (t .fat) (s .sectors)
   chained = known s img t room start chain-zero
 
   sectors : Sectors (take (s .sectors) (t .fat)) ids
@@ -121,30 +125,34 @@ module _ (s : State) (img : List ℕ) (t : Tables) (room start : ℕ) (z : chang
   unfolding chainFrom
   hand = agreed-fits (s .mode) img (s .used) (s .sectors) (s .free) (s .header) t agrees (omega (arith, long-enough))
 
-  frees : FreesOnce (s .sectors) (take (s .sectors) (t .fat)) (take (s .free) (t .frees))
+  pub frees : FreesOnce (s .sectors) (take (s .sectors) (t .fat)) (take (s .free) (t .frees))
   frees = agreed-frees (s .mode) img (s .used) (s .sectors) (s .free) (s .header) t agrees
 
   -- the sectors of the chain and the FREE ones are below n
   count-few : length ids ≤ s .sectors
   count-few = omega (arith, sectors .most, chained .count)
 
-  id-below : (j : ℕ) → j < length ids → getD ids j 0 < s .sectors
+  pub id-below : (j : ℕ) → j < length ids → getD ids j 0 < s .sectors
   id-below j h = omega (arith, sectors .within j h, chained .count)
 
-  free-long : length (take (s .free) (t .frees)) ≡ s .free
+  pub free-long : length (take (s .free) (t .frees)) ≡ s .free
   unfolding chainFrom
   free-long = length-take-le (s .free) (t .frees) (omega (arith, hand .free-few, hand .frees-long, hand .disk .inside))
 
-  free-at : (j : ℕ) → j < s .free → getD (take (s .free) (t .frees)) j 0 ≡ getD (t .frees) j 0
+  pub free-at : (j : ℕ) → j < s .free → getD (take (s .free) (t .frees)) j 0 ≡ getD (t .frees) j 0
   free-at j h = getD-take (s .free) (t .frees) j 0 h
 
-  -- no sector of the chain is FREE
-  next-used : (j : ℕ) → j < length ids → getD (take (s .sectors) (t .fat)) (getD ids j 0) 0 ≢ freeSector
-  next-used j h e =
+  -- the entry of each sector of the chain is END or a sector
+  pub next-kind : (j : ℕ) → j < length ids → (getD (take (s .sectors) (t .fat)) (getD ids j 0) 0 ≡ endOfChain) ⊎ (getD (take (s .sectors) (t .fat)) (getD ids j 0) 0 < s .sectors)
+  next-kind j h =
       ⊎-elim
-      (λ (l : suc j < length ids). omega (arith, linked .next j h, e, getD-some ids (suc j) endOfChain l, id-below (suc j) l, chained .few, chained .count))
-      (λ (g : length ids ≤ suc j). omega (arith, linked .next j h, e, List·getD-eq-default ids endOfChain g))
+      (λ (l : suc j < length ids). inr (omega (arith, linked .next j h, getD-some ids (suc j) endOfChain l, id-below (suc j) l)))
+      (λ (g : length ids ≤ suc j). inl (linked .next j h ∙ List·getD-eq-default ids endOfChain g))
       (below-or (suc j) (length ids))
+
+  -- so no sector of the chain is FREE
+  next-used : (j : ℕ) → j < length ids → getD (take (s .sectors) (t .fat)) (getD ids j 0) 0 ≢ freeSector
+  next-used j h e = ⊎-elim (λ x. omega (arith, x, e)) (λ x. omega (arith, x, e, chained .few, chained .count)) (next-kind j h)
 
   ids-frees : (i j : ℕ) → i < length ids → j < s .free → getD ids i 0 ≢ getD (t .frees) j 0
   ids-frees i j hi hj e =
