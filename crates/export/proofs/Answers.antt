@@ -5,7 +5,7 @@ use mathlib.Core.Bool.{Bool, true, false, not}
 use mathlib.Core.List.{List}
 use mathlib.Core.Logic.{_≢_, ⊎-elim}
 use native.Mathlib.Omega.{arith}
-use borrow.Author.Tests.{eq-eqb, ne-eqb}
+use borrow.Author.Tests.{ne-eqb}
 use lib.Dec.{eqb}
 use lib.ListN.{length, getD}
 use Rattle.lists.specs.Lists.{choose, both, splice}
@@ -18,7 +18,6 @@ use Rattle.header.specs.declared.Version.the-variants.{V3, V4}
 use Rattle.header.specs.declared.Numbered.{Numbered}
 use Rattle.header.specs.declared.Numbered.the-variants.{Known, Unknown}
 use Rattle.header.specs.declared.Validation.{Validation}
-use Rattle.header.specs.declared.Validation.the-variants.{Permissive, Strict}
 use Rattle.header.specs.declared.Header.{Header}
 use Rattle.header.specs.declared.Read.{Read}
 use Rattle.header.specs.declared.WriteVerdict.{WriteVerdict}
@@ -26,18 +25,9 @@ use Rattle.alloc.specs.Opening.{Tables}
 use Rattle.cfb.specs.Face.{numberOf, Opens}
 use Rattle.cfb.specs.declared.Opened.{Opened}
 use Rattle.cfb.proofs.Facing.{verdict-number}
-use Rattle.export.specs.States.{stateWords, OpenGives}
-use Rattle.export.specs.Layout.{modeOf, headerWith, headerFrom, headerLeft, writtenNo, bytesLeft}
-
--- 0 is permissive
-pub mode-zero : (n : ℕ) → n ≡ 0 → Permissive ≡ modeOf n
-unfolding modeOf
-mode-zero n e = rw (eq-eqb n 0 e)
-
--- any other number is strict
-pub mode-other : (n : ℕ) → n ≢ 0 → Strict ≡ modeOf n
-unfolding modeOf
-mode-other n ne = rw (ne-eqb n 0 ne)
+use Rattle.layout.specs.Layout.{modeOf, headerWith, headerFrom, headerLeft, writtenNo, bytesLeft}
+use Rattle.layout.specs.States.{stateWords}
+use Rattle.export.specs.Opening.{OpenGives}
 
 -- the number that a reading gives, in a mode that is named another way
 pub reading-number : {b : List ℕ} {m n : Validation} {r : Read} → ReadSays b m r → m ≡ n → readNumber (r .verdict) ≡ readNo n b

@@ -11,11 +11,11 @@ use Rattle.moves.specs.Hand.{Chain}
 use Rattle.cfb.specs.Changes.{stateFrom, tablesIn, startIn, Changes, ChainResizes, ChainWrites}
 use Rattle.cfb.specs.declared.State.{State}
 use Rattle.cfb.specs.declared.Called.{Called}
-use Rattle.export.specs.States.{stateWords}
-use Rattle.export.specs.Chains.{holds, heldIn, answerNo, answerWords, given, heldNo}
+use Rattle.layout.specs.States.{stateWords, holds, heldIn}
+use Rattle.layout.specs.Answers.{answerNo, answerWords, given, heldNo}
+use Rattle.layout.proofs.Again.{header-fits, state-holds}
+use Rattle.layout.proofs.Telling.{number-of, words-of, zeros-given}
 use Rattle.export.specs.Changes.{ChangeGives, ResizeChainGives, WriteChainGives}
-use Rattle.export.proofs.Again.{header-fits, state-holds}
-use Rattle.export.proofs.Giving.{number-of, words-of, zeros-given}
 
 -- the number of a call on words that hold a state, and on words that hold none
 held-number : (words : List ℕ) (k : ℕ) → holds words ≡ true → k ≡ heldNo words k

@@ -2,54 +2,19 @@
 use Prim.Native.Nat.{ℕ}
 use mathlib.Core.Path.{_≡_, refl, sym, _∙_, ap}
 use mathlib.Core.Bool.{Bool, true, false}
-use mathlib.Core.List.{List, [], _∷_, _++_}
-use mathlib.Core.Logic.{⊎-elim, _≢_}
-use borrow.Author.Tests.{eq-eqb, ne-eqb}
+use mathlib.Core.List.{List, [], _∷_}
 use lib.Dec.{eqb}
-use lib.ListN.{length, getD, take, drop, replicate}
+use lib.ListN.{length, replicate}
 use Rattle.lists.specs.Lists.{choose}
-use Rattle.lists.proofs.Cases.{same-or}
 use Rattle.chain.specs.Bytes.{readCount, readBytes}
 use Rattle.alloc.specs.Opening.{Tables}
-use Rattle.cfb.specs.Calls.{stateLen, chainNo, chainIds, readNo, idsLeft, toldBy, told, ChainOpens, ChainReads}
-use Rattle.cfb.specs.declared.Answer.{Answer}
-use Rattle.cfb.specs.declared.Answer.the-variants.{Done, Refused}
+use Rattle.cfb.specs.Calls.{stateLen, chainNo, chainIds, readNo, idsLeft, ChainOpens, ChainReads}
 use Rattle.cfb.specs.declared.State.{State}
 use Rattle.cfb.specs.declared.Called.{Called}
-use Rattle.export.specs.Chains.{holds, heldIn, answerNo, answerWords, given, chainGiven, readGiven, OpenChainGives, ReadChainGives}
-
--- the three words of what is told, and zeros where less is
-abbrev three : List ℕ → List ℕ
-three l = take 3 (drop 1 l ++ (0 ∷ 0 ∷ 0 ∷ []))
-
--- number and words of an answer are those that it tells
-number-told : (a : Answer) → answerNo a ≡ getD (toldBy a) 0 0
-number-told (Done ids start bytes) = refl
-number-told (Refused k) = refl
-
-words-told : (a : Answer) → answerWords a ≡ three (toldBy a)
-words-told (Done ids start bytes) = refl
-words-told (Refused k) = refl
-
--- and of a call that ends with k
-told-number : (k ids start bytes : ℕ) → getD (told k ids start bytes) 0 0 ≡ k
-unfolding told
-told-number k ids start bytes = ⊎-elim (λ (z : k ≡ 0). rw (eq-eqb k 0 z) (sym z)) (λ (n : k ≢ 0). rw (ne-eqb k 0 n)) (same-or k 0)
-
-told-words : (k ids start bytes : ℕ) → three (told k ids start bytes) ≡ given k ids start bytes
-unfolding told given
-told-words k ids start bytes = ⊎-elim (λ (z : k ≡ 0). rw (eq-eqb k 0 z)) (λ (n : k ≢ 0). rw (ne-eqb k 0 n)) (same-or k 0)
-
--- the words of an acceptance
-pub words-done : {a : Answer} {ids start bytes : ℕ} → a ≡ Done ids start bytes → ids ∷ start ∷ bytes ∷ [] ≡ answerWords a
-words-done e = rw e
-
--- an answer that tells it
-pub number-of : (a : Answer) (k ids start bytes : ℕ) → toldBy a ≡ told k ids start bytes → answerNo a ≡ k
-number-of a k ids start bytes e = number-told a ∙ ap (λ (l : List ℕ). getD l 0 0) e ∙ told-number k ids start bytes
-
-pub words-of : (a : Answer) (k ids start bytes : ℕ) → toldBy a ≡ told k ids start bytes → answerWords a ≡ given k ids start bytes
-words-of a k ids start bytes e = words-told a ∙ ap three e ∙ told-words k ids start bytes
+use Rattle.layout.specs.States.{holds, heldIn}
+use Rattle.layout.specs.Answers.{answerNo, answerWords, given}
+use Rattle.layout.proofs.Telling.{number-of, words-of, zeros-given}
+use Rattle.export.specs.Chains.{chainGiven, readGiven, OpenChainGives, ReadChainGives}
 
 -- the number of a call on words that hold a state, and on words that hold none
 chain-held : (words img : List ℕ) (t : Tables) (room start : ℕ) → holds words ≡ true → chainNo (heldIn words) img t room start ≡ chainGiven words img t room start
@@ -68,11 +33,7 @@ read-unheld : (words img : List ℕ) (t : Tables) (room start offset : ℕ) → 
 unfolding readGiven
 read-unheld words img t room start offset h = rw h
 
--- 19 has three zeros beside it, leaves the id list zero, and the buffer as it was
-pub zeros-given : (ids start bytes : ℕ) → 0 ∷ 0 ∷ 0 ∷ [] ≡ given 19 ids start bytes
-unfolding given
-zeros-given ids start bytes = refl
-
+-- 19 leaves the id list zero
 zeros-left : (ids xs : List ℕ) → replicate (length ids) 0 ≡ idsLeft 19 ids xs
 unfolding idsLeft
 zeros-left ids xs = refl

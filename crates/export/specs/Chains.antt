@@ -1,63 +1,15 @@
--- The state that 121 words hold, and what the calls on a chain give at the library's edge. Assumes nothing.
+-- What the calls on a chain give at the library's edge. Assumes nothing.
 use Prim.Native.Nat.{ℕ}
 use mathlib.Core.Path.{_≡_}
-use mathlib.Core.Bool.{Bool, true}
-use mathlib.Core.List.{List, [], _∷_}
-use lib.Dec.{eqb, leb}
-use lib.ListN.{length, getD, drop}
-use Rattle.lists.specs.Lists.{choose, both, either}
+use mathlib.Core.List.{List}
+use lib.Dec.{eqb}
+use lib.ListN.{length}
+use Rattle.lists.specs.Lists.{choose}
 use Rattle.chain.specs.Bytes.{readCount, readBytes}
 use Rattle.alloc.specs.Opening.{Tables}
 use Rattle.cfb.specs.Calls.{stateLen, chainNo, chainIds, readNo, idsLeft}
-use Rattle.cfb.specs.declared.Answer.{Answer}
-use Rattle.cfb.specs.declared.Answer.the-variants.{Done, Refused}
-use Rattle.cfb.specs.declared.State.{State}
-use Rattle.export.specs.Layout.{modeOf, headerFrom}
-
--- each word has at most 32 bits
-unfoldable pub fitsIn : List ℕ → Bool
-fitsIn [] = true
-fitsIn (x ∷ xs) = both (leb x 4294967295) (fitsIn xs)
-
--- the number of a version
-unfoldable pub isVersion : ℕ → Bool
-isVersion n = either (eqb n 3) (eqb n 4)
-
--- words that hold a state: a mode of 0 or 1, a version of 3 or 4, and a header's words of 32 bits
-unfoldable pub holds : List ℕ → Bool
-unfolding isVersion fitsIn
-holds words = both (leb (getD words 0 0) 1) (both (isVersion (getD words 4 0)) (fitsIn (drop 4 words)))
-
--- the state that they hold
-unfoldable pub heldIn : List ℕ → State
-unfolding modeOf headerFrom
-heldIn words =
-    record {
-      mode = modeOf (getD words 0 0);
-      used = getD words 1 0;
-      sectors = getD words 2 0;
-      free = getD words 3 0;
-      header = headerFrom (drop 4 words);
-    }
-
--- the number of an answer: 0 for an acceptance
-abbrev pub answerNo : Answer → ℕ
-answerNo (Done ids start bytes) = 0
-answerNo (Refused k) = k
-
--- the three words beside it: how many ids, the start, how many bytes; zeros beside a refusal
-abbrev pub answerWords : Answer → List ℕ
-answerWords (Done ids start bytes) = ids ∷ start ∷ bytes ∷ []
-answerWords (Refused k) = 0 ∷ 0 ∷ 0 ∷ []
-
--- the three words of a call that ends with k
-unfoldable pub given : ℕ → ℕ → ℕ → ℕ → List ℕ
-given k ids start bytes = choose (eqb k 0) (ids ∷ start ∷ bytes ∷ []) (0 ∷ 0 ∷ 0 ∷ [])
-
--- the number of a call that ends with k on the state that words hold: 19 for words that hold none, before k
-unfoldable pub heldNo : List ℕ → ℕ → ℕ
-unfolding holds
-heldNo words k = choose (holds words) k 19
+use Rattle.layout.specs.States.{heldIn}
+use Rattle.layout.specs.Answers.{given, heldNo}
 
 -- the number that opening a chain ends with
 unfoldable pub chainGiven : List ℕ → List ℕ → Tables → ℕ → ℕ → ℕ

@@ -1,36 +1,31 @@
 // The functions that C and Rust call: each takes what it is lent apart, calls the proved library, and gives numbers.
 // None asks anything of its caller: every number and every slice has an answer.
-mod items;
-mod layout;
-mod states;
-mod told;
-
 use cfb::State;
 use header::Header;
 use header::Numbered;
 use header::Version;
-use items::item_named;
-use items::item_numbers;
-use items::named_text;
-use items::number_of_item;
-use items::number_of_kind;
-use layout::header_with;
-use layout::mode_of;
-use layout::words_of;
-use states::holds_state;
-use states::state_in;
-use states::words_of_state;
-use told::give;
-use told::number_of_answer;
-use told::words_of_answer;
+use layout::headers::header_with;
+use layout::headers::mode_of;
+use layout::headers::words_of;
+use layout::items::item_named;
+use layout::items::item_numbers;
+use layout::items::named_text;
+use layout::items::number_of_item;
+use layout::items::number_of_kind;
+use layout::states::holds_state;
+use layout::states::state_in;
+use layout::states::words_of_state;
+use layout::told::give;
+use layout::told::number_of_answer;
+use layout::told::words_of_answer;
 ghost use mathlib.Core.Path.{_≡_};
 ghost use lib.ListN.{length};
 ghost use Rattle.consts.specs.Kinds.{kindOf};
 ghost use Rattle.consts.specs.Pretty.{itemAt};
 ghost use Rattle.header.specs.Read.{readNo};
-ghost use Rattle.export.specs.Items.{kindNumber, itemNumber, itemNumbers, namedOf, namedText};
-ghost use Rattle.export.specs.Layout.{modeOf, wordsOf, headerLeft, writtenNo, bytesLeft};
-ghost use Rattle.export.specs.States.{OpenGives};
+ghost use Rattle.layout.specs.Items.{kindNumber, itemNumber, itemNumbers, namedOf, namedText};
+ghost use Rattle.layout.specs.Layout.{modeOf, wordsOf, headerLeft, writtenNo, bytesLeft};
+ghost use Rattle.export.specs.Opening.{OpenGives};
 ghost use Rattle.export.specs.Chains.{OpenChainGives, ReadChainGives};
 ghost use Rattle.export.specs.Changes.{WriteChainGives, ResizeChainGives};
 

@@ -1,6 +1,6 @@
 -- `rasuvelk_read_header` meets its contract: it gives the number and the words of what the reader says. Assumes nothing.
 use mathlib.Core.Path.{_∙_, ap}
-use Rattle.export.specs.Layout.{wordsOf}
+use Rattle.layout.specs.Layout.{wordsOf}
 use Rattle.export.proofs.Answers.{reading-number, reading-header}
 use borrow.Author.Needs.{needs}
 use Rattle.export.proofs.rasuvelk_read_header.Statement.{statement}

@@ -1,0 +1,5 @@
+pub mod Naming
+pub mod Placing
+pub mod Holding
+pub mod Telling
+pub mod Again
