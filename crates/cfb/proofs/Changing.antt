@@ -17,10 +17,11 @@ use Rattle.alloc.specs.Opening.{Tables}
 use Rattle.alloc.specs.Opened.{padded}
 use Rattle.chain.specs.declared.Walked.{Walked}
 use Rattle.chain.specs.declared.Walked.the-variants.{Listed, Refused}
+use Rattle.disk.specs.Needed.{resizeMore, writeMore}
 use Rattle.moves.specs.Hand.{Chain}
 use Rattle.moves.specs.Fits.{FitsChain}
 use Rattle.moves.proofs.Changing.{chain-room}
-use Rattle.moves.specs.Change.{resizeMore, writeMore, resized, written, FitsResize, FitsWrite}
+use Rattle.moves.specs.Change.{resized, written, FitsResize, FitsWrite}
 use Rattle.moves.specs.declared.change.Changed.{Changed}
 use Rattle.cfb.specs.Calls.{stateLen, agreedRows, walkRows, chainIds, idsLeft, toldBy}
 use Rattle.cfb.specs.Changes.{changeRows, changeNo, noRoom, resizeRows, resizeNo, writeRows, writeNo, chainFrom, stateFrom, tablesIn, startIn, Changes, ChainResizes, ChainWrites, ChangeListed, doneWith}

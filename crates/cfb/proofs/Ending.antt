@@ -14,9 +14,9 @@ use Rattle.consts.specs.Consts.{endOfChain}
 use Rattle.header.specs.Read.{headerOf}
 use Rattle.header.specs.declared.Header.{Header}
 use Rattle.fat.specs.Lists.{roomOf}
-use Rattle.moves.specs.Disk.{countAfter}
+use Rattle.disk.specs.Disk.{countAfter}
+use Rattle.disk.proofs.Fitting.{count-none}
 use Rattle.moves.specs.declared.change.Changed.{Changed}
-use Rattle.moves.proofs.Linking.{count-none}
 use Rattle.cfb.specs.Calls.{stateLen}
 use Rattle.cfb.specs.Changes.{noRoom, startIn, doneWith}
 use Rattle.cfb.specs.declared.State.{State}

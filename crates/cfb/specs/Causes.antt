@@ -12,8 +12,8 @@ use Rattle.fat.specs.Lists.{roomOf}
 use Rattle.alloc.specs.Opening.{Tables, shortest}
 use Rattle.agree.specs.Agrees.{Agrees}
 use Rattle.chain.specs.Steps.{Breaks, Returns}
-use Rattle.moves.specs.Change.{resizeMore, writeMore}
-use Rattle.moves.specs.Disk.{countAfter}
+use Rattle.disk.specs.Needed.{resizeMore, writeMore}
+use Rattle.disk.specs.Disk.{countAfter}
 use Rattle.cfb.specs.Calls.{stateLen, chainIds}
 use Rattle.cfb.specs.declared.State.{State}
 

@@ -14,9 +14,10 @@ use Rattle.fat.specs.Lists.{roomOf}
 use Rattle.judge.specs.Judge.{pointed}
 use Rattle.alloc.specs.Opening.{Tables}
 use Rattle.alloc.specs.Opened.{padded}
-use Rattle.moves.specs.Disk.{countAfter}
+use Rattle.disk.specs.Disk.{countAfter}
+use Rattle.disk.specs.Needed.{resizeMore, writeMore}
 use Rattle.moves.specs.Hand.{Chain}
-use Rattle.moves.specs.Change.{resizeMore, resized, writeMore, written}
+use Rattle.moves.specs.Change.{resized, written}
 use Rattle.chain.specs.declared.Walked.{Walked}
 use Rattle.cfb.specs.Calls.{stateLen, walked, agreedRows, walkRows, chainIds, idsLeft, toldBy, told}
 use Rattle.cfb.specs.Listed.{walkedAs}

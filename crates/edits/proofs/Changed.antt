@@ -18,11 +18,12 @@ use Rattle.chain.specs.Stores.{writeBytes, tailOf, zeroTail, Writable, Outside}
 use Rattle.chain.proofs.Bytes.{length-chain}
 use Rattle.chain.proofs.Stored.{write-chain, write-apart}
 use Rattle.chain.proofs.Zeroed.{tail-none, tail-some, zero-chain, zero-apart, zero-sector}
+use Rattle.disk.specs.Needed.{resizeMore, writeMore}
+use Rattle.disk.proofs.Keeping.{sectors-inside}
+use Rattle.disk.proofs.Needing.{ceil-whole, ceil-part, ceil-within}
 use Rattle.moves.specs.Hand.{Chain, extend}
 use Rattle.moves.specs.Fits.{FitsChain}
-use Rattle.moves.specs.Change.{shrink, withImage, idsOf, resizeMore, resized, writeMore, written, FitsShrink, FitsResize, FitsWrite}
-use Rattle.moves.proofs.Keeping.{sectors-inside}
-use Rattle.moves.proofs.Needing.{ceil-whole, ceil-part, ceil-within}
+use Rattle.moves.specs.Change.{shrink, withImage, idsOf, resized, written, FitsShrink, FitsResize, FitsWrite}
 use Rattle.moves.proofs.Extending.{extend-count, extend-fits}
 use Rattle.moves.proofs.Shrinking.{shrink-fits, shrink-ids, shrink-count, shrink-long}
 use Rattle.moves.proofs.Changing.{chain-listed, chain-id, chain-lies, chain-writable, shrunk-writable, resized-more, resized-fewer, resize-shrink, write-covers}

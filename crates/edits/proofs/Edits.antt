@@ -14,9 +14,10 @@ use Rattle.fat.specs.Lists.{ceil}
 use Rattle.alloc.specs.Opened.{padded}
 use Rattle.chain.specs.Bytes.{chainBytes}
 use Rattle.chain.proofs.Apart.{sector-before, sector-other}
+use Rattle.disk.specs.Needed.{resizeMore, writeMore}
 use Rattle.moves.specs.Hand.{Chain, extend}
 use Rattle.moves.specs.Fits.{FitsChain, FitsMore}
-use Rattle.moves.specs.Change.{shrink, withImage, idsOf, resizeMore, resized, writeMore, written, FitsShrink, FitsResize, FitsWrite}
+use Rattle.moves.specs.Change.{shrink, withImage, idsOf, resized, written, FitsShrink, FitsResize, FitsWrite}
 use Rattle.moves.proofs.Extending.{extend-count, extend-fits, extend-long}
 use Rattle.moves.proofs.Shrinking.{shrink-ids, shrink-long}
 use Rattle.moves.proofs.Changing.{resized-more, resized-fewer, resize-shrink, resized-fits, resized-count, resized-long, written-fits, written-count, written-long}

@@ -1,7 +1,7 @@
 -- The sectors that are taken, computed for document 01's cases. Assumes nothing.
 use mathlib.Core.Path.{_≡_, refl}
 use mathlib.Core.List.{[], _∷_}
-use Rattle.moves.specs.Disk.{countAfter, oneMore, afterFat, needsDifat}
+use Rattle.disk.specs.Disk.{countAfter, oneMore, afterFat, needsDifat}
 use Rattle.fat.specs.Lists.{ceil, difatCount}
 use Rattle.edits.specs.Order.{takenAt, addedFat, addedDifat}
 

@@ -5,7 +5,7 @@ use mathlib.Core.List.{List}
 use native.Mathlib.Omega.{arith}
 use lib.ListN.{length, getD, set, length-set}
 use lib.Seq.{getD-set-same, getD-set-other}
-use Rattle.moves.specs.Disk.{setFat}
+use Rattle.disk.specs.Disk.{setFat}
 use Rattle.moves.specs.Hand.{Hand, point, freeSectorOf, freeRun}
 use Rattle.moves.proofs.Freeing.{free-none, free-more, free-one-count}
 use Rattle.edits.proofs.Growing.{SameLists}

@@ -12,11 +12,12 @@ use Rattle.lists.proofs.Cases.{below-or, same-or, true-or, not-both}
 use Rattle.sectors.specs.Sectors.{perSector}
 use Rattle.fat.specs.Lists.{ceil, fatCount, difatCount}
 use Rattle.fat.proofs.Listing.{ceil-enough}
-use Rattle.moves.specs.Disk.{Disk, store, setFat, pushFat, listFat, listDifat, appendDifat, needsDifat, storePlace, holdPlace, listPlace, appendFat, afterFat, oneMore, ready, newSector}
-use Rattle.moves.specs.Hand.{Hand, Chain, reused, point, takenId, takeSector, linked, extendOne}
-use Rattle.moves.specs.Fits.{FitsFat, FitsNew, FitsHand, FitsMore}
-use Rattle.moves.proofs.Counting.{fat-full, difat-none, difat-suc, needs-full, needs-not, needs-near, after-needs, after-not}
-use Rattle.moves.proofs.Fitting.{append-sectors, ready-full, ready-part, new-sectors, new-full, count-full, count-part, full-many, full-place, reused-sectors}
+use Rattle.disk.specs.Disk.{Disk, store, setFat, pushFat, listFat, listDifat, appendDifat, needsDifat, storePlace, holdPlace, listPlace, appendFat, afterFat, oneMore, ready, newSector, reused}
+use Rattle.disk.specs.Fits.{FitsFat, FitsNew}
+use Rattle.disk.proofs.Counting.{fat-full, difat-none, difat-suc, needs-full, needs-not, needs-near, after-needs, after-not}
+use Rattle.disk.proofs.Fitting.{append-sectors, ready-full, ready-part, new-sectors, new-full, count-full, count-part, full-many, full-place, reused-sectors}
+use Rattle.moves.specs.Hand.{Hand, Chain, point, takenId, takeSector, linked, extendOne}
+use Rattle.moves.specs.Fits.{FitsHand, FitsMore}
 use Rattle.moves.proofs.Taking.{take-none, take-one, id-new, id-last}
 use Rattle.moves.proofs.Linking.{linked-none, linked-last, more-room}
 use Rattle.edits.specs.Order.{addedFat, addedDifat}

@@ -13,7 +13,7 @@ use Rattle.sectors.specs.Sectors.{startOf, sectorOf}
 use Rattle.chain.specs.Bytes.{chainBytes, Lies}
 use Rattle.chain.proofs.Apart.{sector-other}
 use Rattle.chain.proofs.Bytes.{length-chain}
-use Rattle.moves.specs.Disk.{Disk}
+use Rattle.disk.specs.Disk.{Disk}
 use Rattle.moves.specs.Hand.{Chain}
 use Rattle.edits.specs.Roles.{fatsHeld, difatsHeld}
 use Rattle.edits.specs.Untouched.{Aside, Untouched, Other}

@@ -8,9 +8,10 @@ use lib.ListN.{length, getD}
 use Rattle.lists.proofs.Cases.{below-or, same-or}
 use Rattle.consts.specs.Consts.{endOfChain}
 use Rattle.fat.specs.Lists.{ceil, fatCount, difatCount}
+use Rattle.disk.specs.Needed.{resizeMore, writeMore}
 use Rattle.moves.specs.Hand.{Hand, Chain, point, takenId, takeSector, extendOne, extend, freeSectorOf, freeRun}
 use Rattle.moves.specs.Fits.{FitsChain, FitsMore}
-use Rattle.moves.specs.Change.{cut, shrink, withImage, resizeMore, resized, writeMore, written, Apart, FitsShrink, FitsResize, FitsWrite}
+use Rattle.moves.specs.Change.{cut, shrink, withImage, resized, written, Apart, FitsShrink, FitsResize, FitsWrite}
 use Rattle.moves.proofs.Pointing.{point-fits, point-counts}
 use Rattle.moves.proofs.Taking.{id-new, id-last, take-free, take-sectors-grow}
 use Rattle.moves.proofs.Linking.{one-free, one-fits, more-place, more-room, more-taken}

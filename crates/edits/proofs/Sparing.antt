@@ -22,11 +22,11 @@ use Rattle.sectors.specs.declared.init.SectorInit.{SectorInit}
 use Rattle.sectors.specs.declared.init.SectorInit.the-variants.{Difat}
 use Rattle.sectors.proofs.New.{length-init}
 use Rattle.fat.specs.Lists.{difatCount}
-use Rattle.moves.specs.Disk.{Disk, store, entryPlace, setFat, pushFat, listFat, listDifat, linkPlace, appendDifat, needsDifat, storePlace, holdPlace, listPlace}
-use Rattle.moves.specs.Fits.{Fits}
-use Rattle.moves.proofs.Counting.{difat-none, difat-suc, needs-full, needs-not}
-use Rattle.moves.proofs.Keeping.{Kept, kept-then, kept-none, each-many, entry-inside, header-inside, sectors-inside, link-inside, entries-inside, number-kept, init-kept, set-kept, push-kept, grow-kept, list-kept}
-use Rattle.moves.proofs.Fitting.{place-inside, place-in-sector}
+use Rattle.disk.specs.Disk.{Disk, store, entryPlace, setFat, pushFat, listFat, listDifat, linkPlace, appendDifat, needsDifat, storePlace, holdPlace, listPlace}
+use Rattle.disk.specs.Fits.{Fits}
+use Rattle.disk.proofs.Counting.{difat-none, difat-suc, needs-full, needs-not}
+use Rattle.disk.proofs.Keeping.{Kept, kept-then, kept-none, each-many, entry-inside, header-inside, sectors-inside, link-inside, entries-inside, number-kept, init-kept, set-kept, push-kept, grow-kept, list-kept}
+use Rattle.disk.proofs.Fitting.{place-inside, place-in-sector}
 use Rattle.edits.specs.Untouched.{Beside}
 
 -- a run within a sector leaves what stands beside the sector

@@ -19,12 +19,13 @@ use Rattle.sectors.specs.Init.{initBytes}
 use Rattle.sectors.specs.declared.init.SectorInit.the-variants.{Zero, Fat}
 use Rattle.sectors.proofs.New.{init-zero}
 use Rattle.fat.specs.Lists.{fatCount, difatCount}
-use Rattle.moves.specs.Disk.{Disk, store, setFat, pushFat, listFat, needsDifat, storePlace, holdPlace, listPlace, appendFat, oneMore, ready, newSector}
-use Rattle.moves.specs.Hand.{Hand, Chain, reused, point, takenId, takeSector, linked, extendOne}
-use Rattle.moves.specs.Fits.{FitsWhole, FitsFat, FitsNew, FitsHand, FitsMore}
-use Rattle.moves.proofs.Counting.{fat-full, difat-suc}
-use Rattle.moves.proofs.Keeping.{header-inside, sectors-inside, push-kept, set-kept}
-use Rattle.moves.proofs.Fitting.{fatNew, fatMarked, entry-sector, full-many, full-fits, full-room, full-place, marked-same, marked-room, new-full, ready-full, ready-part, ready-kept, ready-has, ready-room, count-full, count-part, new-sectors, reused-sectors}
+use Rattle.disk.specs.Disk.{Disk, store, setFat, pushFat, listFat, needsDifat, storePlace, holdPlace, listPlace, appendFat, oneMore, ready, newSector, reused}
+use Rattle.disk.specs.Fits.{FitsWhole, FitsFat, FitsNew}
+use Rattle.disk.proofs.Counting.{fat-full, difat-suc}
+use Rattle.disk.proofs.Keeping.{header-inside, sectors-inside, push-kept, set-kept}
+use Rattle.disk.proofs.Fitting.{fatNew, fatMarked, entry-sector, full-many, full-fits, full-room, full-place, marked-same, marked-room, new-full, ready-full, ready-part, ready-kept, ready-has, ready-room, count-full, count-part, new-sectors, reused-sectors}
+use Rattle.moves.specs.Hand.{Hand, Chain, point, takenId, takeSector, linked, extendOne}
+use Rattle.moves.specs.Fits.{FitsHand, FitsMore}
 use Rattle.moves.proofs.Taking.{take-none, take-one, id-new, id-last}
 use Rattle.moves.proofs.Linking.{linked-none, linked-last, more-room, more-last, more-taken}
 use Rattle.edits.specs.Untouched.{Beside, Spared, Aside}

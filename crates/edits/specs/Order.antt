@@ -5,7 +5,7 @@ use lib.Dec.{ltb}
 use lib.ListN.{getD}
 use Rattle.lists.specs.Lists.{choose}
 use Rattle.sectors.specs.Sectors.{perSector}
-use Rattle.moves.specs.Disk.{countAfter}
+use Rattle.disk.specs.Disk.{countAfter}
 
 -- document 01: the i-th sector that is taken: from the end of the free list; when it is empty, the last of the sectors that there are then
 unfoldable pub takenAt : ℕ → ℕ → List ℕ → ℕ → ℕ → ℕ

@@ -5,7 +5,7 @@ use mathlib.Core.List.{List}
 use mathlib.Core.Logic.{_≢_}
 use lib.ListN.{getD}
 use Rattle.fat.specs.Lists.{fatCount, difatCount}
-use Rattle.moves.specs.Disk.{Disk}
+use Rattle.disk.specs.Disk.{Disk}
 use Rattle.moves.specs.Hand.{Chain}
 use Rattle.moves.specs.Fits.{FitsChain}
 use Rattle.moves.specs.Change.{Apart}

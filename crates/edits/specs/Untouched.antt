@@ -5,7 +5,7 @@ use mathlib.Core.Logic.{_⊎_, _≢_}
 use lib.ListN.{length, getD}
 use Rattle.header.specs.Fields.{fatsAt, difatAt, offsetOf, widthOf}
 use Rattle.sectors.specs.Sectors.{startOf}
-use Rattle.moves.specs.Disk.{Disk}
+use Rattle.disk.specs.Disk.{Disk}
 use Rattle.moves.specs.Hand.{Chain}
 use Rattle.edits.specs.Roles.{fatsHeld, difatsHeld}
 

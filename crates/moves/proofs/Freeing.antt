@@ -8,7 +8,7 @@ use lib.ListN.{length, getD, set, length-set}
 use lib.Seq.{getD-set-same, getD-set-other}
 use Rattle.lists.proofs.Cases.{same-or}
 use Rattle.consts.specs.Consts.{freeSector}
-use Rattle.moves.specs.Disk.{setFat}
+use Rattle.disk.specs.Disk.{setFat}
 use Rattle.moves.specs.Hand.{Hand, Chain, point, Points, freeSectorOf, freeRun}
 use Rattle.moves.specs.Fits.{FitsHand, FitsFrees, FitsChain}
 use Rattle.moves.proofs.Pointing.{handOf, HandLong, long-none, long-then, points-hand, point-fits, point-long}

@@ -10,10 +10,10 @@ use lib.Seq.{getD-set-same, getD-set-other}
 use Rattle.lists.proofs.Cases.{same-or}
 use Rattle.sectors.specs.Sectors.{startOf, perSector}
 use Rattle.fat.specs.Lists.{most}
-use Rattle.moves.specs.Disk.{oneMore, countAfter}
+use Rattle.disk.specs.Disk.{oneMore, countAfter}
+use Rattle.disk.proofs.Fitting.{one-more-grows, count-none, count-more, count-grows}
 use Rattle.moves.specs.Hand.{Hand, Chain, Points, point, takenId, takeSector, linked, extendOne}
 use Rattle.moves.specs.Fits.{FitsHand, FitsStock, FitsLast, FitsMore}
-use Rattle.moves.proofs.Fitting.{one-more-grows, count-grows, count-more}
 use Rattle.moves.proofs.Pointing.{handOf, HandLong, long-none, long-then, points-hand, point-fits, point-inside, point-long, point-counts}
 use Rattle.moves.proofs.Taking.{stock-of, take-sectors-new, take-sectors-same, take-sectors-grow, take-free, taken-below, take-fits, take-long}
 
@@ -124,11 +124,6 @@ one-counted S m c =
     let left : m - (c .hand .free - 1) ≡ suc m - c .hand .free = omega (arith, e) in
     rw (one-sectors-same S c e, one-free, left))
     (same-or (c .hand .free) 0)
-
--- no sector more is as many
-pub count-none : (S n : ℕ) → countAfter S n 0 ≡ n
-unfolding countAfter
-count-none S n = refl
 
 -- a chain that m + 1 sectors can be taken for
 module _ {S R m : ℕ} {c : Chain} (f : FitsMore S R (suc m) c) where

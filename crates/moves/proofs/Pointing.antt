@@ -11,11 +11,12 @@ use Rattle.lists.specs.Lists.{choose, splice}
 use Rattle.words.specs.Words.{digits}
 use Rattle.sectors.specs.Sectors.{startOf, perSector}
 use Rattle.fat.specs.Lists.{fatCount}
-use Rattle.moves.specs.Disk.{Disk, setFat, entryPlace}
+use Rattle.disk.specs.Disk.{Disk, setFat, entryPlace}
+use Rattle.disk.specs.Fits.{FitsWhole}
+use Rattle.disk.proofs.Fitting.{set-fits, set-long, entry-sector, fats-inside}
+use Rattle.disk.proofs.Keeping.{SameLong}
 use Rattle.moves.specs.Hand.{Hand, marked, point, Points}
-use Rattle.moves.specs.Fits.{FitsWhole, FitsHand}
-use Rattle.moves.proofs.Fitting.{set-fits, set-long, entry-sector, fats-inside}
-use Rattle.moves.proofs.Keeping.{SameLong}
+use Rattle.moves.specs.Fits.{FitsHand}
 
 -- a mark that is set, and one that is no sector's
 pub marked-below : (n : ℕ) (marks : List ℕ) (t v : ℕ) → t < n → set marks t v ≡ marked n marks t v

@@ -16,10 +16,11 @@ use Rattle.sectors.specs.Init.{initBytes}
 use Rattle.sectors.specs.declared.init.SectorInit.the-variants.{Zero}
 use Rattle.sectors.proofs.Laws.{sector-within}
 use Rattle.fat.specs.Lists.{most}
-use Rattle.moves.specs.Disk.{Disk, store, setFat, entryPlace, ready, newSector, oneMore}
-use Rattle.moves.specs.Hand.{Hand, reused, takenId, takeSector}
-use Rattle.moves.specs.Fits.{FitsWhole, FitsNew, FitsHand, FitsStock}
-use Rattle.moves.proofs.Fitting.{reused-fits, reused-long, reused-sectors, new-fits, new-long, ready-sectors, new-sectors, one-more-grows}
+use Rattle.disk.specs.Disk.{Disk, store, setFat, entryPlace, ready, newSector, oneMore, reused}
+use Rattle.disk.specs.Fits.{FitsWhole, FitsNew}
+use Rattle.disk.proofs.Fitting.{reused-fits, reused-long, reused-sectors, new-fits, new-long, ready-sectors, new-sectors, one-more-grows}
+use Rattle.moves.specs.Hand.{Hand, takenId, takeSector}
+use Rattle.moves.specs.Fits.{FitsHand, FitsStock}
 use Rattle.moves.proofs.Pointing.{HandLong, entry-in-hand}
 
 -- a FREE sector's entry set, and its bytes made zero

@@ -1,5 +1,5 @@
 -- What a change makes of a chain in hand (document 01, Write, Resize and Free), over the sector's length S. Assumes nothing.
-use Prim.Native.Nat.{ℕ, _+_, _-_, _*_, _≤_, _<_}
+use Prim.Native.Nat.{ℕ, _-_, _*_, _≤_, _<_}
 use mathlib.Core.Path.{_≡_}
 use mathlib.Core.Logic.{_≢_}
 use mathlib.Core.List.{List}
@@ -10,6 +10,7 @@ use Rattle.consts.specs.Consts.{endOfChain}
 use Rattle.fat.specs.Lists.{ceil}
 use Rattle.alloc.specs.Opened.{padded}
 use Rattle.chain.specs.Stores.{writeBytes, zeroTail}
+use Rattle.disk.specs.Needed.{resizeMore, writeMore}
 use Rattle.moves.specs.Fits.{FitsChain, FitsMore}
 use Rattle.moves.specs.Hand.{Hand, Chain, linked, freeRun, extend}
 
@@ -44,22 +45,12 @@ withImage c img =
 unfoldable pub idsOf : Chain → List ℕ
 idsOf c = take (c .count) (c .ids)
 
--- document 01, Resize: how many sectors the new length asks for more than there are
-unfoldable pub resizeMore : ℕ → ℕ → ℕ → ℕ
-unfolding ceil
-resizeMore S count len = ceil len S - count
-
 -- document 01, Resize: more: zero sectors; fewer or as many: the tail is freed, and bytes from the new length to the end of its sector are zeroed
 unfoldable pub resized : ℕ → Chain → ℕ → Chain
 unfolding ceil shrink extend withImage idsOf zeroTail resizeMore
 resized S c len =
     choose (ltb (c .count) (ceil len S)) (extend S c (resizeMore S (c .count) len))
     (withImage (shrink S c (ceil len S)) (zeroTail S (shrink S c (ceil len S) .hand .disk .image) (idsOf (shrink S c (ceil len S))) len))
-
--- document 01, Write: how many sectors a write of so many bytes from an offset on asks for more than there are
-unfoldable pub writeMore : ℕ → ℕ → ℕ → ℕ → ℕ
-unfolding ceil
-writeMore S count offset bytes = ceil (offset + bytes) S - count
 
 -- document 01, Write: the chain grows to cover offset plus buffer, new bytes past the end are zero, all bytes are written
 unfoldable pub written : ℕ → Chain → ℕ → List ℕ → Chain

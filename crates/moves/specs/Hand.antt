@@ -6,11 +6,8 @@ use lib.Dec.{eqb, ltb}
 use lib.ListN.{getD, set}
 use Rattle.lists.specs.Lists.{choose, splice}
 use Rattle.words.specs.Words.{digits}
-use Rattle.consts.specs.Consts.{endOfChain, freeSector}
-use Rattle.sectors.specs.Sectors.{startOf}
-use Rattle.sectors.specs.Init.{initBytes}
-use Rattle.sectors.specs.declared.init.SectorInit.the-variants.{Zero}
-use Rattle.moves.specs.Disk.{Disk, store, entryPlace, setFat, ready, newSector}
+use Rattle.consts.specs.Consts.{freeSector}
+use Rattle.disk.specs.Disk.{Disk, entryPlace, setFat, ready, newSector, reused}
 
 -- the disk, the lent free list over its whole length and how many sectors it lists, and the lent marks
 pub record Hand : Type 0 where
@@ -44,11 +41,6 @@ pub record Points (S n : ℕ) (image fat fats marks : List ℕ) (i v : ℕ) (ima
 unfoldable pub takenId : ℕ → Hand → ℕ
 unfolding ready
 takenId S h = choose (eqb (h .free) 0) (ready S (h .disk) .sectors) (getD (h .frees) (h .free - 1) 0)
-
--- FREE sector id becomes a chain's last one, zero
-unfoldable pub reused : ℕ → Disk → ℕ → Disk
-unfolding setFat store
-reused S d id = store (setFat S d id endOfChain) (startOf S id) (initBytes S Zero)
 
 -- document 01: a sector is taken: the last of the free list, whose place there is zero then, or a new one
 unfoldable pub takeSector : ℕ → Hand → Hand

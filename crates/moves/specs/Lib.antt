@@ -1,4 +1,3 @@
 pub mod Change
-pub mod Disk
 pub mod Fits
 pub mod Hand

@@ -2,10 +2,10 @@
 use crate::hand::extend_by;
 use crate::hand::free_run;
 use crate::hand::link_last;
-use crate::room::sectors_for;
-use crate::room::sectors_past;
 use chain::stores::write as write_bytes;
 use chain::stores::zero_tail;
+use disk::room::sectors_for;
+use disk::room::sectors_past;
 ghost use mathlib.Core.Path.{_≡_};
 ghost use mathlib.Core.List.{List};
 ghost use Prim.Native.Nat.{ℕ, _+_, _-_};

@@ -1,6 +1,6 @@
 // The moves on what is in hand: a sector taken, pointed at, freed, and a chain extended by them.
-use crate::disk::new_sector;
-use crate::disk::set_fat;
+use disk::disk::new_sector;
+use disk::disk::set_fat;
 use sectors::init::SectorInit;
 use sectors::init::init_at;
 ghost use mathlib.Core.Path.{_≡_};
@@ -9,8 +9,9 @@ ghost use mathlib.Core.List.{List};
 ghost use lib.ListN.{length, getD};
 ghost use Rattle.sectors.specs.Sectors.{startOf, perSector};
 ghost use Rattle.fat.specs.Lists.{roomOf};
+ghost use Rattle.disk.specs.Disk.{reused};
 ghost use Rattle.moves.specs.Fits.{FitsStock, FitsFrees, FitsLast, FitsMore};
-ghost use Rattle.moves.specs.Hand.{marked, Points, reused, takenId, takeSector, freeRun, linked, extendOne, extend};
+ghost use Rattle.moves.specs.Hand.{marked, Points, takenId, takeSector, freeRun, linked, extendOne, extend};
 
 // Sets the mark of sector t, where t is one of n.
 fn set_mark(n: usize, marks: &mut [u8], t: u32, v: u8)

@@ -15,7 +15,8 @@ use Rattle.alloc.specs.Opening.{Tables}
 use Rattle.alloc.specs.Opened.{padded}
 use Rattle.chain.specs.Bytes.{chainBytes}
 use Rattle.moves.specs.Hand.{Chain}
-use Rattle.moves.specs.Change.{resizeMore, writeMore, resized, written, idsOf, FitsResize, FitsWrite}
+use Rattle.disk.specs.Needed.{resizeMore, writeMore}
+use Rattle.moves.specs.Change.{resized, written, idsOf, FitsResize, FitsWrite}
 use Rattle.edits.specs.Roles.{Roles}
 use Rattle.edits.specs.Untouched.{Untouched, Others}
 use Rattle.edits.proofs.Edits.{resized-bytes, written-bytes, resized-untouched, written-untouched, resized-others, written-others}

@@ -8,7 +8,8 @@ use Rattle.header.specs.Fields.{lengthOf}
 use Rattle.fat.specs.Lists.{roomOf}
 use Rattle.alloc.specs.Opening.{Tables}
 use Rattle.chain.specs.declared.Walked.the-variants.{Listed}
-use Rattle.moves.specs.Change.{resizeMore, FitsResize}
+use Rattle.disk.specs.Needed.{resizeMore}
+use Rattle.moves.specs.Change.{FitsResize}
 use Rattle.moves.proofs.Changing.{resized-fits}
 use Rattle.cfb.specs.Calls.{stateLen}
 use Rattle.cfb.specs.Changes.{noRoom, chainFrom}

@@ -8,7 +8,8 @@ use Rattle.header.specs.Fields.{lengthOf}
 use Rattle.fat.specs.Lists.{roomOf}
 use Rattle.alloc.specs.Opening.{Tables}
 use Rattle.chain.specs.declared.Walked.the-variants.{Listed}
-use Rattle.moves.specs.Change.{writeMore, FitsWrite}
+use Rattle.disk.specs.Needed.{writeMore}
+use Rattle.moves.specs.Change.{FitsWrite}
 use Rattle.moves.proofs.Changing.{written-fits}
 use Rattle.cfb.specs.Calls.{stateLen}
 use Rattle.cfb.specs.Changes.{noRoom, chainFrom}
