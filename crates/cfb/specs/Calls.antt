@@ -85,7 +85,7 @@ unfoldable pub idsLeft : ℕ → List ℕ → List ℕ → List ℕ
 unfolding padded
 idsLeft k before ids = choose (eqb k 0) (padded ids (length before)) (choose (eqb k 11) before (replicate (length before) 0))
 
--- document 01's number and values for each case of the answer: an acceptance has 0, the number of ids, the start, and the bytes read
+-- document 01's number and values for each case of the answer: an acceptance has 0, the number of ids, the start, and the bytes read or written
 abbrev pub toldBy : Answer → List ℕ
 toldBy (Done ids start bytes) = 0 ∷ ids ∷ start ∷ bytes ∷ []
 toldBy (Refused k) = k ∷ []

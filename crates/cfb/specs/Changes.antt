@@ -26,7 +26,7 @@ use Rattle.cfb.specs.declared.State.{State}
 use Rattle.cfb.specs.declared.Answer.the-variants.{Done}
 use Rattle.cfb.specs.declared.Called.{Called}
 
--- document 01, 25: the start is not END, and some entry equals it
+-- document 01, 25: the start is not END, and some entry equals it; a start that is not refused by 20 is regular, so the entry is
 unfoldable pub startPointed : State → Tables → ℕ → Bool
 unfolding pointed
 startPointed s t start = both (not (eqb start endOfChain)) (pointed (take (s .sectors) (t .fat)) (s .sectors) start)
@@ -87,7 +87,7 @@ chainFrom s img t room start =
       count = length (chainIds s t start);
     }
 
--- document 01: the state that a fresh opening of the bytes gives: the header is read anew
+-- document 01: the state after a change: its header is read anew from the bytes, its numbers are those in hand
 unfoldable pub stateFrom : State → Chain → State
 stateFrom s c =
     record {

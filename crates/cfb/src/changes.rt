@@ -113,7 +113,7 @@ fn first_of(ids: &[u32], count: usize) -> u32
     ids[0]
 }
 
-// The answer of a change that was made, and the state after it: what a fresh opening of the image gives, the header read anew.
+// The answer of a change that was made, and the state after it, its header read anew from the image.
 pub(crate) fn done_with(
     mut s: State,
     image: &[u8],

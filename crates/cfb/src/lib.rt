@@ -58,7 +58,7 @@ pub struct Opened {
     pub state: State,
 }
 
-// The answer of a call on a chain: how many sectors it has, where it starts, and how many bytes were read; or the number of the refusal.
+// The answer of a call on a chain: how many sectors it has, where it starts, and how many bytes were read or written; or the number of the refusal.
 pub enum Answer {
     Done {
         ids: usize,

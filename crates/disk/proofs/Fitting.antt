@@ -23,16 +23,16 @@ use Rattle.disk.proofs.Counting.{fat-suc, fat-full, fat-part, fat-has, 
 use Rattle.disk.proofs.Keeping.{SameLong, Kept, kept-then, kept-none, each-many, header-inside, sectors-of-fat, difats-inside, link-inside, number-kept, init-kept, set-kept, push-kept, grow-kept, list-kept}
 
 -- the next sector as a DIFAT sector, step by step: new, marked, linked, listed
-abbrev difatNew : ℕ → Disk → Disk
+abbrev pub difatNew : ℕ → Disk → Disk
 difatNew S d = store d (startOf S (d .sectors)) (initBytes S Difat)
 
-abbrev difatMarked : ℕ → Disk → Disk
+abbrev pub difatMarked : ℕ → Disk → Disk
 difatMarked S d = pushFat S (difatNew S d) difatSector
 
-abbrev difatLinked : ℕ → Disk → ℕ → Disk
+abbrev pub difatLinked : ℕ → Disk → ℕ → Disk
 difatLinked S d j = store (difatMarked S d) (linkPlace S (d .difats) j) (digits 4 (d .sectors))
 
-abbrev difatListed : ℕ → Disk → ℕ → Disk
+abbrev pub difatListed : ℕ → Disk → ℕ → Disk
 difatListed S d j = listDifat (difatLinked S d j) j (d .sectors)
 
 pub difat-kept : (S R k j : ℕ) (d : Disk) → d .sectors / perSector S < k → d .sectors < R → j < R → Fits S R k j d → Kept S R k (suc j) d (appendDifat S d j)

@@ -222,7 +222,7 @@ pub resized-freed-bytes : (S R len : ℕ) (c : Chain) → FitsResize S R len c �
     → sectorOf S (resized S c len .hand .disk .image) (getD (c .ids) (ceil len S + i) 0) ≡ sectorOf S (c .hand .disk .image) (getD (c .ids) (ceil len S + i) 0)
 resized-freed-bytes S R len c f r i l = freed-sector S R len c f r (omega (arith, l)) i l
 
--- Every other chain keeps its bytes: sectors that were neither FAT, DIFAT, the chain's nor FREE.
+-- Sectors of others keep their bytes: those that were neither FAT, DIFAT, the chain's nor FREE.
 
 pub extend-others : (S R m : ℕ) (c : Chain) → FitsMore S R m c → (others : List ℕ) → Others S c others
     → chainBytes S (extend S c m .hand .disk .image) others ≡ chainBytes S (c .hand .disk .image) others

@@ -26,7 +26,7 @@ use Rattle.disk.specs.Disk.{Disk, store, entryPlace, setFat, pushFat, listFat, 
 use Rattle.disk.specs.Fits.{Fits}
 use Rattle.disk.proofs.Counting.{difat-none, difat-suc, needs-full, needs-not}
 use Rattle.disk.proofs.Keeping.{Kept, kept-then, kept-none, each-many, entry-inside, header-inside, sectors-inside, link-inside, entries-inside, number-kept, init-kept, set-kept, push-kept, grow-kept, list-kept}
-use Rattle.disk.proofs.Fitting.{place-inside, place-in-sector}
+use Rattle.disk.proofs.Fitting.{difatNew, difatMarked, difatLinked, difatListed, place-inside, place-in-sector}
 use Rattle.edits.specs.Untouched.{Beside}
 
 -- a run within a sector leaves what stands beside the sector
@@ -125,19 +125,6 @@ module _ (P : ℕ → Type 0) where
 
   field-spared : (o b : ℕ) → offsetOf difatAt ≤ o → o + 4 ≤ 512 → (b < offsetOf difatAt) ⊎ (512 ≤ b) → (b < o) ⊎ (o + 4 ≤ b)
   field-spared o b l h s = ⊎-elim (λ (u : b < offsetOf difatAt). inl (omega (arith, u, l))) (λ (u : 512 ≤ b). inr (omega (arith, u, h))) s
-
-  -- the next sector as a DIFAT sector, step by step: new, marked, linked, listed
-  abbrev difatNew : ℕ → Disk → Disk
-  difatNew S d = store d (startOf S (d .sectors)) (initBytes S Difat)
-
-  abbrev difatMarked : ℕ → Disk → Disk
-  difatMarked S d = pushFat S (difatNew S d) difatSector
-
-  abbrev difatLinked : ℕ → Disk → ℕ → Disk
-  difatLinked S d j = store (difatMarked S d) (linkPlace S (d .difats) j) (digits 4 (d .sectors))
-
-  abbrev difatListed : ℕ → Disk → ℕ → Disk
-  difatListed S d j = listDifat (difatLinked S d j) j (d .sectors)
 
   link-spared : (S j b : ℕ) (difats : List ℕ) → S ≡ 4 * perSector S → 128 ≤ perSector S → (b < offsetOf difatAt) ⊎ (512 ≤ b) → (j ≢ 0 → Beside S (getD difats (j - 1) 0) b)
       → (b < linkPlace S difats j) ⊎ (linkPlace S difats j + 4 ≤ b)

@@ -1,4 +1,4 @@
--- Each sector of a chain in hand has one role: FAT, DIFAT, one of the chain's, or FREE (document 01, 12, 14 and 16). Assumes nothing.
+-- No sector has two of these roles: FAT, DIFAT, one of the chain in hand's, FREE (document 01, 12, 14 and 16). Assumes nothing.
 use Prim.Native.Nat.{ℕ, _<_}
 use mathlib.Core.Path.{_≡_}
 use mathlib.Core.List.{List}

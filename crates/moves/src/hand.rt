@@ -132,7 +132,7 @@ pub fn free_run(
     }
 }
 
-// Makes the last of count ids point at sector id; a chain of none begins with it.
+// Makes id the entry of the last of count ids: a sector that follows it, or END where the chain is cut behind it. A chain of none has no such entry.
 pub(crate) fn link_last(
     image: &mut [u8],
     s: usize,
