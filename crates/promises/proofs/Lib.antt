@@ -1,2 +1,3 @@
 pub mod Base
 pub mod Calls
+pub mod Entries
