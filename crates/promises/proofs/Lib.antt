@@ -1,3 +1,4 @@
 pub mod Base
 pub mod Calls
 pub mod Entries
+pub mod Graph
