@@ -1,13 +1,13 @@
 -- The chain in hand stays one of the FAT's, with nothing pointing at its first sector, under each move. Assumes nothing.
-use Prim.Native.Nat.{ℕ, zero, suc, _+_, _-_, _≤_, _<_}
+use Prim.Native.Nat.{ℕ, zero, suc, _-_, _≤_, _<_}
 use mathlib.Core.Path.{_≡_, refl, _∙_, sym, ap}
 use mathlib.Core.List.{List, [], _∷_}
-use mathlib.Core.Logic.{_⊎_, inl, inr, ⊎-elim, _≢_}
+use mathlib.Core.Logic.{⊎-elim, _≢_}
 use native.Mathlib.Omega.{arith}
 use lib.ListN.{length, getD, take, List·getD-eq-default}
 use lib.Seq.{getD-take, length-take-le}
 use Rattle.lists.proofs.Cases.{below-or, same-or}
-use Rattle.consts.specs.Consts.{difatSector, fatSector, endOfChain, freeSector}
+use Rattle.consts.specs.Consts.{endOfChain, freeSector}
 use Rattle.fat.specs.Lists.{ceil}
 use Rattle.disk.specs.Needed.{resizeMore, writeMore}
 use Rattle.moves.specs.Hand.{Hand, Chain, takenId, takeSector, freeRun, extendOne, extend}
@@ -25,7 +25,7 @@ use Rattle.promises.specs.Whole.{Formed, Held, fatHeld}
 use Rattle.promises.proofs.Entries.{Taken, point-entry, point-others, point-length, free-run-others, free-run-either, take-taken}
 
 -- within a list the value past its end does not matter
-getD-any : (l : List ℕ) (i d e : ℕ) → i < length l → getD l i d ≡ getD l i e
+pub getD-any : (l : List ℕ) (i d e : ℕ) → i < length l → getD l i d ≡ getD l i e
 getD-any [] i d e h = absurd (omega arith)
 getD-any (x ∷ l) zero d e h = refl
 getD-any (x ∷ l) (suc i) d e h = getD-any l i d e (omega arith)
@@ -40,7 +40,7 @@ abbrev StrungIn : Chain → Type 0
 StrungIn c = Strung (c .hand .disk .sectors) (c .hand .disk .fat) (c .count) (c .ids)
 
 module _ (S R : ℕ) (c : Chain) (f : FitsChain S R c) where
-  held-length : length (fatHeld (c .hand .disk)) ≡ c .hand .disk .sectors
+  pub held-length : length (fatHeld (c .hand .disk)) ≡ c .hand .disk .sectors
   held-length = length-take-le (c .hand .disk .sectors) (c .hand .disk .fat) (omega (arith, f .fits .disk .inside, f .fits .disk .fat-long))
 
   held-at : (i : ℕ) → i < c .hand .disk .sectors → getD (fatHeld (c .hand .disk)) i 0 ≡ getD (c .hand .disk .fat) i 0
