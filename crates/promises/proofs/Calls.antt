@@ -6,7 +6,6 @@ use native.Mathlib.Omega.{arith}
 use borrow.Author.Tests.{ltb-false}
 use lib.Dec.{ltb}
 use lib.ListN.{length, getD, take, replicate}
-use lib.Seq.{take-at}
 use Rattle.lists.specs.Lists.{splice}
 use Rattle.lists.specs.Rows.{Row, row, refusal, distinct, fresh}
 use Rattle.lists.proofs.Rows.{given-none, append-accepts}
@@ -14,16 +13,21 @@ use Rattle.fat.specs.Lists.{roomOf, ceil}
 use Rattle.alloc.specs.Opening.{Tables}
 use Rattle.alloc.specs.Opened.{padded}
 use Rattle.chain.specs.Bytes.{chainBytes}
+use Rattle.chain.specs.Walk.{lists, walkOf}
 use Rattle.moves.specs.Hand.{Chain}
 use Rattle.disk.specs.Needed.{resizeMore, writeMore}
 use Rattle.moves.specs.Change.{resized, written, idsOf, FitsResize, FitsWrite}
+use Rattle.moves.proofs.Changing.{resized-fits, written-fits}
 use Rattle.edits.specs.Roles.{Roles}
 use Rattle.edits.specs.Untouched.{Untouched, Others}
 use Rattle.edits.proofs.Edits.{resized-bytes, written-bytes, resized-untouched, written-untouched, resized-others, written-others}
 use Rattle.cfb.specs.Calls.{stateLen, agreedRows, walkRows, chainIds}
-use Rattle.cfb.specs.Changes.{changeRows, changeNo, noRoom, resizeRows, resizeNo, writeRows, writeNo, chainFrom}
+use Rattle.cfb.specs.Changes.{changeRows, changeNo, noRoom, resizeRows, resizeNo, writeRows, writeNo, chainFrom, startIn}
 use Rattle.cfb.specs.declared.State.{State}
+use Rattle.promises.specs.Whole.{fatHeld}
 use Rattle.promises.proofs.Base.{roles-of}
+use Rattle.promises.proofs.Graph.{held-resized, held-written}
+use Rattle.promises.proofs.Walks.{before-ids, held-of, formed-of, held-walk}
 
 module _ (s : State) (img : List ℕ) (t : Tables) (room start : ℕ) where
   -- the chain before a change, and the bytes of a chain in hand
@@ -33,13 +37,9 @@ module _ (s : State) (img : List ℕ) (t : Tables) (room start : ℕ) where
   abbrev bytesOf : Chain → List ℕ
   bytesOf c = chainBytes (stateLen s) (c .hand .disk .image) (idsOf c)
 
-  before-ids : idsOf before ≡ chainIds s t start
-  unfolding idsOf chainFrom padded
-  before-ids = take-at (chainIds s t start) _ (length (chainIds s t start)) refl
-
   before-bytes : bytesOf before ≡ chainBytes (stateLen s) img (chainIds s t start)
   unfolding chainFrom
-  before-bytes = ap (chainBytes (stateLen s) img) before-ids
+  before-bytes = ap (chainBytes (stateLen s) img) (before-ids s img t room start)
 
   -- an accepted resize
   module _ (len : ℕ) (z : resizeNo s img t room start len ≡ 0) where
@@ -72,6 +72,13 @@ module _ (s : State) (img : List ℕ) (t : Tables) (room start : ℕ) where
     pub resize-keeps : (others : List ℕ) → Others (stateLen s) before others → chainBytes (stateLen s) (resized (stateLen s) before len .hand .disk .image) others ≡ chainBytes (stateLen s) img others
     unfolding chainFrom
     resize-keeps others o = resized-others (stateLen s) _ len before resize-fits resize-roles others o
+
+    -- document 01, Walk: the ids that it leaves are what the walk of the FAT that it leaves lists, from the start that it answers
+    pub resize-walks : (after : Chain) → after ≡ resized (stateLen s) before len → walkOf (fatHeld (after .hand .disk)) (startIn (after .ids) (after .count)) ≡ lists (idsOf after)
+    resize-walks after e =
+        rw e
+        (held-walk (stateLen s) _ (resized (stateLen s) before len) (resized-fits (stateLen s) _ len before resize-fits)
+        (held-resized (stateLen s) _ len before resize-fits resize-roles (formed-of s img t room start (resize-rows .0)) (held-of s img t room start (resize-rows .0))))
 
   -- an accepted write
   module _ (offset : ℕ) (buf : List ℕ) (z : writeNo s img t room start offset (length buf) ≡ 0) where
@@ -110,3 +117,10 @@ module _ (s : State) (img : List ℕ) (t : Tables) (room start : ℕ) where
     pub write-keeps : (others : List ℕ) → Others (stateLen s) before others → chainBytes (stateLen s) (written (stateLen s) before offset buf .hand .disk .image) others ≡ chainBytes (stateLen s) img others
     unfolding chainFrom
     write-keeps others o = written-others (stateLen s) _ offset buf before write-fits write-roles others o
+
+    -- document 01, Walk: likewise
+    pub write-walks : (after : Chain) → after ≡ written (stateLen s) before offset buf → walkOf (fatHeld (after .hand .disk)) (startIn (after .ids) (after .count)) ≡ lists (idsOf after)
+    write-walks after e =
+        rw e
+        (held-walk (stateLen s) _ (written (stateLen s) before offset buf) (written-fits (stateLen s) _ offset buf before write-fits)
+        (held-written (stateLen s) _ offset buf before write-fits write-roles (formed-of s img t room start (write-rows .0)) (held-of s img t room start (write-rows .0))))
