@@ -4,7 +4,7 @@ use mathlib.Core.Path.{_≡_, refl, _∙_, sym, ap}
 use mathlib.Core.List.{List}
 use mathlib.Core.Logic.{_⊎_, inl, inr, ⊎-elim, _≢_}
 use native.Mathlib.Omega.{arith}
-use lib.ListN.{length, getD, set, length-set}
+use lib.ListN.{length, getD, set}
 use lib.Seq.{getD-set-same, getD-set-other}
 use Rattle.lists.proofs.Cases.{below-or, same-or}
 use Rattle.consts.specs.Consts.{maxRegular, invalidSector, endOfChain, freeSector}

@@ -3,4 +3,5 @@ pub mod Calls
 pub mod Entries
 pub mod Forming
 pub mod Graph
+pub mod Parts
 pub mod Walks
