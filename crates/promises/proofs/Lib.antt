@@ -4,4 +4,5 @@ pub mod Entries
 pub mod Forming
 pub mod Graph
 pub mod Parts
+pub mod Shrinking
 pub mod Walks
