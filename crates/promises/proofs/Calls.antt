@@ -24,10 +24,11 @@ use Rattle.edits.proofs.Edits.{resized-bytes, written-bytes, resized-untouched,
 use Rattle.cfb.specs.Calls.{stateLen, agreedRows, walkRows, chainIds}
 use Rattle.cfb.specs.Changes.{changeRows, changeNo, noRoom, resizeRows, resizeNo, writeRows, writeNo, chainFrom, startIn}
 use Rattle.cfb.specs.declared.State.{State}
-use Rattle.promises.specs.Whole.{fatHeld}
+use Rattle.promises.specs.Whole.{Formed, fatHeld}
 use Rattle.promises.proofs.Base.{roles-of}
 use Rattle.promises.proofs.Graph.{held-resized, held-written}
-use Rattle.promises.proofs.Walks.{before-ids, held-of, formed-of, held-walk}
+use Rattle.promises.proofs.Growing.{formed-resized, formed-written}
+use Rattle.promises.proofs.Walks.{before-ids, held-of, formed-of, blank-of, held-walk}
 
 module _ (s : State) (img : List ℕ) (t : Tables) (room start : ℕ) where
   -- the chain before a change, and the bytes of a chain in hand
@@ -80,6 +81,12 @@ module _ (s : State) (img : List ℕ) (t : Tables) (room start : ℕ) where
         (held-walk (stateLen s) _ (resized (stateLen s) before len) (resized-fits (stateLen s) _ len before resize-fits)
         (held-resized (stateLen s) _ len before resize-fits resize-roles (formed-of s img t room start (resize-rows .0)) (held-of s img t room start (resize-rows .0))))
 
+    -- document 01, 12 and 14 to 18: the tables that it leaves are well formed
+    pub resize-forms : Formed (stateLen s) (resized (stateLen s) before len .hand)
+    resize-forms =
+        formed-resized (stateLen s) _ len before resize-fits resize-roles (held-of s img t room start (resize-rows .0)) (formed-of s img t room start (resize-rows .0))
+        (blank-of s img t room start (resize-rows .0)) .0
+
   -- an accepted write
   module _ (offset : ℕ) (buf : List ℕ) (z : writeNo s img t room start offset (length buf) ≡ 0) where
     abbrev more : ℕ
@@ -124,3 +131,8 @@ module _ (s : State) (img : List ℕ) (t : Tables) (room start : ℕ) where
         rw e
         (held-walk (stateLen s) _ (written (stateLen s) before offset buf) (written-fits (stateLen s) _ offset buf before write-fits)
         (held-written (stateLen s) _ offset buf before write-fits write-roles (formed-of s img t room start (write-rows .0)) (held-of s img t room start (write-rows .0))))
+
+    pub write-forms : Formed (stateLen s) (written (stateLen s) before offset buf .hand)
+    write-forms =
+        formed-written (stateLen s) _ offset buf before write-fits write-roles (held-of s img t room start (write-rows .0)) (formed-of s img t room start (write-rows .0))
+        (blank-of s img t room start (write-rows .0)) .0
