@@ -39,6 +39,8 @@ pub record Grown (S : ℕ) (d : Disk) (k j : ℕ) (fats' difats' : List ℕ) (id
   pub difat-id : difat ≢ id
   pub fat-place : fatsHeld S d < k → fat ≡ addedFat S (fatsHeld S d)
   pub difat-place : difatsHeld S d < j → difat ≡ addedDifat S (difatsHeld S d)
+  pub fat-first : fatsHeld S d < k → fat ≡ d .sectors
+  pub difat-second : difatsHeld S d < j → difat ≡ suc (d .sectors)
 
 -- the same by equal numbers and lists
 grown-at : {S : ℕ} {d : Disk} {k j k' j' : ℕ} {fats difats fats' difats' : List ℕ} {id id' : ℕ} → k' ≡ k → j' ≡ j → fats' ≡ fats → difats' ≡ difats → id' ≡ id
@@ -67,6 +69,8 @@ grown-none S d k j fats difats id f g hk hj h =
       difat-id = omega (arith, h);
       fat-place = λ l. absurd (omega (arith, l, hk));
       difat-place = λ l. absurd (omega (arith, l, hj));
+      fat-first = λ l. absurd (omega (arith, l, hk));
+      difat-second = λ l. absurd (omega (arith, l, hj));
     }
 
 -- a place of the DIFAT leaves the FAT's list, and the DIFAT's too where no DIFAT sector is needed
@@ -162,6 +166,8 @@ module _ (S R : ℕ) (d : Disk) (f : FitsFat S R d) where
         difat-id = omega arith;
         fat-place = λ l. sector-full;
         difat-place = λ l. absurd (omega (arith, l, same));
+        fat-first = λ l. refl;
+        difat-second = λ l. absurd (omega (arith, l, same));
       }
 
   pub append-grown-difat : needsDifat S (d .sectors / perSector S) ≡ true
@@ -191,6 +197,8 @@ module _ (S R : ℕ) (d : Disk) (f : FitsFat S R d) where
             let at : fatsHeld S d ≡ 109 + difatsHeld S d * (perSector S - 1)
             = omega (arith, count-is, places-full S (d .sectors / perSector S) two t, ap (λ (q : ℕ). q * (perSector S - 1)) was, needs-far S (d .sectors / perSector S) t) in
             omega (arith, sector-full, ap (λ (q : ℕ). q * perSector S) at);
+        fat-first = λ l. refl;
+        difat-second = λ l. refl;
       }
 
 -- how many there are when a new sector is taken, by whether the FAT is full

@@ -24,10 +24,15 @@ use Rattle.edits.proofs.Edits.{resized-bytes, written-bytes, resized-untouched,
 use Rattle.cfb.specs.Calls.{stateLen, agreedRows, walkRows, chainIds}
 use Rattle.cfb.specs.Changes.{changeRows, changeNo, noRoom, resizeRows, resizeNo, writeRows, writeNo, chainFrom, startIn}
 use Rattle.cfb.specs.declared.State.{State}
-use Rattle.promises.specs.Whole.{fatHeld}
+use Rattle.promises.specs.Whole.{Formed, fatHeld}
 use Rattle.promises.proofs.Base.{roles-of}
 use Rattle.promises.proofs.Graph.{held-resized, held-written}
-use Rattle.promises.proofs.Walks.{before-ids, held-of, formed-of, held-walk}
+use Rattle.promises.proofs.Growing.{formed-resized, formed-written}
+use Rattle.promises.proofs.Walks.{before-ids, held-of, formed-of, blank-of, held-walk}
+
+-- document 01, Walk: the ids of a chain in hand are what the walk of its FAT lists, from the start that a change answers
+abbrev pub Walks : Chain → Type 0
+Walks c = walkOf (fatHeld (c .hand .disk)) (startIn (c .ids) (c .count)) ≡ lists (idsOf c)
 
 module _ (s : State) (img : List ℕ) (t : Tables) (room start : ℕ) where
   -- the chain before a change, and the bytes of a chain in hand
@@ -73,12 +78,17 @@ module _ (s : State) (img : List ℕ) (t : Tables) (room start : ℕ) where
     unfolding chainFrom
     resize-keeps others o = resized-others (stateLen s) _ len before resize-fits resize-roles others o
 
-    -- document 01, Walk: the ids that it leaves are what the walk of the FAT that it leaves lists, from the start that it answers
-    pub resize-walks : (after : Chain) → after ≡ resized (stateLen s) before len → walkOf (fatHeld (after .hand .disk)) (startIn (after .ids) (after .count)) ≡ lists (idsOf after)
-    resize-walks after e =
-        rw e
-        (held-walk (stateLen s) _ (resized (stateLen s) before len) (resized-fits (stateLen s) _ len before resize-fits)
-        (held-resized (stateLen s) _ len before resize-fits resize-roles (formed-of s img t room start (resize-rows .0)) (held-of s img t room start (resize-rows .0))))
+    -- the ids that it leaves are the walk of the FAT that it leaves
+    pub resize-walks : Walks (resized (stateLen s) before len)
+    resize-walks =
+        held-walk (stateLen s) _ (resized (stateLen s) before len) (resized-fits (stateLen s) _ len before resize-fits)
+        (held-resized (stateLen s) _ len before resize-fits resize-roles (formed-of s img t room start (resize-rows .0)) (held-of s img t room start (resize-rows .0)))
+
+    -- document 01, 12 and 14 to 18: the tables that it leaves are well formed
+    pub resize-forms : Formed (stateLen s) (resized (stateLen s) before len .hand)
+    resize-forms =
+        formed-resized (stateLen s) _ len before resize-fits resize-roles (held-of s img t room start (resize-rows .0)) (formed-of s img t room start (resize-rows .0))
+        (blank-of s img t room start (resize-rows .0)) .0
 
   -- an accepted write
   module _ (offset : ℕ) (buf : List ℕ) (z : writeNo s img t room start offset (length buf) ≡ 0) where
@@ -118,9 +128,13 @@ module _ (s : State) (img : List ℕ) (t : Tables) (room start : ℕ) where
     unfolding chainFrom
     write-keeps others o = written-others (stateLen s) _ offset buf before write-fits write-roles others o
 
-    -- document 01, Walk: likewise
-    pub write-walks : (after : Chain) → after ≡ written (stateLen s) before offset buf → walkOf (fatHeld (after .hand .disk)) (startIn (after .ids) (after .count)) ≡ lists (idsOf after)
-    write-walks after e =
-        rw e
-        (held-walk (stateLen s) _ (written (stateLen s) before offset buf) (written-fits (stateLen s) _ offset buf before write-fits)
-        (held-written (stateLen s) _ offset buf before write-fits write-roles (formed-of s img t room start (write-rows .0)) (held-of s img t room start (write-rows .0))))
+    -- the ids that it leaves are the walk of the FAT that it leaves, which is well formed
+    pub write-walks : Walks (written (stateLen s) before offset buf)
+    write-walks =
+        held-walk (stateLen s) _ (written (stateLen s) before offset buf) (written-fits (stateLen s) _ offset buf before write-fits)
+        (held-written (stateLen s) _ offset buf before write-fits write-roles (formed-of s img t room start (write-rows .0)) (held-of s img t room start (write-rows .0)))
+
+    pub write-forms : Formed (stateLen s) (written (stateLen s) before offset buf .hand)
+    write-forms =
+        formed-written (stateLen s) _ offset buf before write-fits write-roles (held-of s img t room start (write-rows .0)) (formed-of s img t room start (write-rows .0))
+        (blank-of s img t room start (write-rows .0)) .0

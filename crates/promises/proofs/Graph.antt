@@ -31,12 +31,12 @@ getD-any (x ∷ l) zero d e h = refl
 getD-any (x ∷ l) (suc i) d e h = getD-any l i d e (omega arith)
 
 -- a chain that is held, over the lent lists
-record Strung (n : ℕ) (fat : List ℕ) (count : ℕ) (ids : List ℕ) : Type 0 where
-  next : (j : ℕ) → suc j < count → getD fat (getD ids j 0) 0 ≡ getD ids (suc j) 0
-  last : (j : ℕ) → suc j ≡ count → getD fat (getD ids j 0) 0 ≡ endOfChain
-  none : 0 < count → (i : ℕ) → i < n → getD fat i 0 ≢ getD ids 0 0
+pub record Strung (n : ℕ) (fat : List ℕ) (count : ℕ) (ids : List ℕ) : Type 0 where
+  pub next : (j : ℕ) → suc j < count → getD fat (getD ids j 0) 0 ≡ getD ids (suc j) 0
+  pub last : (j : ℕ) → suc j ≡ count → getD fat (getD ids j 0) 0 ≡ endOfChain
+  pub none : 0 < count → (i : ℕ) → i < n → getD fat i 0 ≢ getD ids 0 0
 
-abbrev StrungIn : Chain → Type 0
+abbrev pub StrungIn : Chain → Type 0
 StrungIn c = Strung (c .hand .disk .sectors) (c .hand .disk .fat) (c .count) (c .ids)
 
 module _ (S R : ℕ) (c : Chain) (f : FitsChain S R c) where
@@ -49,7 +49,7 @@ module _ (S R : ℕ) (c : Chain) (f : FitsChain S R c) where
   id-entry : (j : ℕ) → j < c .count → getD (fatHeld (c .hand .disk)) (getD (idsOf c) j 0) 0 ≡ getD (c .hand .disk .fat) (getD (c .ids) j 0) 0
   id-entry j l = ap (λ (x : ℕ). getD (fatHeld (c .hand .disk)) x 0) (chain-id S R c f j l) ∙ held-at (getD (c .ids) j 0) (f .within j l)
 
-  held-strung : Held c → StrungIn c
+  pub held-strung : Held c → StrungIn c
   held-strung h = record {
     next = λ j l.
         sym (id-entry j (omega (arith, l))) ∙ h .linked .next j (omega (arith, l, chain-listed S R c f))
@@ -88,13 +88,13 @@ module _ (S R m : ℕ) (c : Chain) (f : FitsMore S R (suc m) c) (r : Roles S R c
   abbrev lastId : ℕ
   lastId = getD (c .ids) (c .count - 1) 0
 
-  taken : Taken (c .hand .disk .sectors) (takeSector S (c .hand) .disk .sectors) (takenId S (c .hand)) (c .hand .disk .fat) (takeSector S (c .hand) .disk .fat)
+  pub taken : Taken (c .hand .disk .sectors) (takeSector S (c .hand) .disk .sectors) (takenId S (c .hand)) (c .hand .disk .fat) (takeSector S (c .hand) .disk .fat)
   taken = take-taken S R (c .hand) (f .fits .fits) (more-room f)
 
   small : takeSector S (c .hand) .disk .sectors ≤ 16384
   small = omega (arith, more-taken f .disk .inside, more-taken f .disk .few)
 
-  link-other : (x : ℕ) → (0 < c .count → x ≢ lastId) → getD (extendOne S c .hand .disk .fat) x 0 ≡ getD (takeSector S (c .hand) .disk .fat) x 0
+  pub link-other : (x : ℕ) → (0 < c .count → x ≢ lastId) → getD (extendOne S c .hand .disk .fat) x 0 ≡ getD (takeSector S (c .hand) .disk .fat) x 0
   unfolding extendOne
   link-other x d =
       ⊎-elim
@@ -104,14 +104,14 @@ module _ (S R m : ℕ) (c : Chain) (f : FitsMore S R (suc m) c) (r : Roles S R c
       ∙ point-others S (takeSector S (c .hand)) lastId id x (d (omega (arith, e))))
       (same-or (c .count) 0)
 
-  link-here : 0 < c .count → getD (extendOne S c .hand .disk .fat) lastId 0 ≡ id
+  pub link-here : 0 < c .count → getD (extendOne S c .hand .disk .fat) lastId 0 ≡ id
   unfolding extendOne
   link-here p =
       ap (λ (h : Hand). getD (h .disk .fat) lastId 0) (linked-last S (takeSector S (c .hand)) (c .ids) (c .count) id (omega (arith, p)))
       ∙ point-entry S (takeSector S (c .hand)) lastId id (omega (arith, more-last f p, more-taken f .disk .inside, more-taken f .disk .fat-long))
 
   -- what nothing pointed at, nothing points at when a sector is taken
-  taken-none : (v : ℕ) → v < takeSector S (c .hand) .disk .sectors → ((i : ℕ) → i < c .hand .disk .sectors → getD (c .hand .disk .fat) i 0 ≢ v)
+  pub taken-none : (v : ℕ) → v < takeSector S (c .hand) .disk .sectors → ((i : ℕ) → i < c .hand .disk .sectors → getD (c .hand .disk .fat) i 0 ≢ v)
       → (i : ℕ) → i < takeSector S (c .hand) .disk .sectors → getD (takeSector S (c .hand) .disk .fat) i 0 ≢ v
   taken-none v l u i h e =
       ⊎-elim
@@ -157,7 +157,7 @@ module _ (S R m : ℕ) (c : Chain) (f : FitsMore S R (suc m) c) (r : Roles S R c
       (same-or i lastId))
       (same-or (c .count) 0)
 
-  one-strung : StrungIn (extendOne S c)
+  pub one-strung : StrungIn (extendOne S c)
   one-strung = record {
     next = λ j l.
         let b : j < c .count = omega (arith, l, one-count S c) in
@@ -207,13 +207,13 @@ held-extended S R (suc m) c f r w h =
 
 -- a chain cut behind m sectors: the last of them has END, and the rest is FREE
 module _ (S R m : ℕ) (c : Chain) (f : FitsShrink S R m c) (r : Roles S R c) (s : StrungIn c) (l : m < c .count) where
-  abbrev cutId : ℕ
+  abbrev pub cutId : ℕ
   cutId = getD (c .ids) (m - 1) 0
 
-  abbrev cutHand : Hand
+  abbrev pub cutHand : Hand
   cutHand = cut S (c .hand) (c .ids) m
 
-  cut-other : (x : ℕ) → (0 < m → x ≢ cutId) → getD (cutHand .disk .fat) x 0 ≡ getD (c .hand .disk .fat) x 0
+  pub cut-other : (x : ℕ) → (0 < m → x ≢ cutId) → getD (cutHand .disk .fat) x 0 ≡ getD (c .hand .disk .fat) x 0
   cut-other x d =
       ⊎-elim
       (λ (e : m ≡ 0). ap (λ (h : Hand). getD (h .disk .fat) x 0) (linked-none S (c .hand) (c .ids) m endOfChain e))
@@ -221,12 +221,12 @@ module _ (S R m : ℕ) (c : Chain) (f : FitsShrink S R m c) (r : Roles S R c) (s
       ap (λ (h : Hand). getD (h .disk .fat) x 0) (linked-last S (c .hand) (c .ids) m endOfChain e) ∙ point-others S (c .hand) cutId endOfChain x (d (omega (arith, e))))
       (same-or m 0)
 
-  cut-here : 0 < m → getD (cutHand .disk .fat) cutId 0 ≡ endOfChain
+  pub cut-here : 0 < m → getD (cutHand .disk .fat) cutId 0 ≡ endOfChain
   cut-here p =
       ap (λ (h : Hand). getD (h .disk .fat) cutId 0) (linked-last S (c .hand) (c .ids) m endOfChain (omega (arith, p)))
       ∙ point-entry S (c .hand) cutId endOfChain (omega (arith, shrink-last S R m c f p, f .fits .fits .disk .inside, f .fits .fits .disk .fat-long))
 
-  shrunk-fat : shrink S c m .hand .disk .fat ≡ freeRun S cutHand (c .ids) m (c .count - m) .disk .fat
+  pub shrunk-fat : shrink S c m .hand .disk .fat ≡ freeRun S cutHand (c .ids) m (c .count - m) .disk .fat
   shrunk-fat = ap (λ (x : Chain). x .hand .disk .fat) (shrink-some S c m l)
 
   kept-entry : (j : ℕ) → j < m → getD (shrink S c m .hand .disk .fat) (getD (shrink S c m .ids) j 0) 0 ≡ getD (cutHand .disk .fat) (getD (c .ids) j 0) 0

@@ -1,17 +1,18 @@
 -- A change that nothing before 23 stands against has well-formed tables and a held chain in hand; the ids of a held chain are the walk from its start. Assumes nothing.
-use Prim.Native.Nat.{ℕ, _<_}
+use Prim.Native.Nat.{ℕ, _-_, _+_, _≤_, _<_}
 use mathlib.Core.Path.{_≡_, refl, _∙_, sym, ap}
 use mathlib.Core.Bool.{not, false}
-use mathlib.Core.List.{List}
+use mathlib.Core.List.{List, _++_}
 use mathlib.Core.Logic.{⊎-elim, _≢_}
 use native.Mathlib.Omega.{arith}
 use borrow.Author.Tests.{ne-eqb}
-use lib.ListN.{length, getD, take, List·getD-eq-default}
-use lib.Seq.{take-at}
+use lib.ListN.{length, getD, take, replicate, length-replicate, getD-replicate, List·getD-eq-default}
+use lib.Seq.{take-at, getD-append-add}
 use Rattle.lists.specs.Rows.{distinct, fresh}
-use Rattle.lists.proofs.Cases.{same-or, both-true, not-both}
+use Rattle.lists.proofs.Cases.{below-or, same-or, both-true, not-both}
 use Rattle.lists.proofs.Rows.{given-none}
 use Rattle.consts.specs.Consts.{endOfChain}
+use Rattle.judge.specs.Judge.{marksOf}
 use Rattle.judge.proofs.Judging.{pointed-by}
 use Rattle.alloc.specs.Opening.{Tables}
 use Rattle.alloc.specs.Opened.{padded}
@@ -34,6 +35,21 @@ use Rattle.cfb.proofs.Refusing.{padded-front}
 use Rattle.promises.specs.Whole.{Formed, Held, fatHeld}
 use Rattle.promises.proofs.Base.{agreed-formed}
 use Rattle.promises.proofs.Graph.{getD-any, held-length}
+use Rattle.promises.proofs.Parts.{Blank}
+
+-- past a list that zeros follow there are zeros
+zero-past : (xs : List ℕ) (m i : ℕ) → length xs ≤ i → getD (padded xs m) i 0 ≡ 0
+unfolding padded
+zero-past xs m i h =
+    let here : i ≡ length xs + (i - length xs) = omega arith in
+    ap (λ (j : ℕ). getD (xs ++ replicate (m - length xs) 0) j 0) here ∙ getD-append-add xs (replicate (m - length xs) 0) (i - length xs) 0 ∙ zeros (m - length xs) (i - length xs)
+  where
+    zeros : (n j : ℕ) → getD {A = ℕ} (replicate n 0) j 0 ≡ 0
+    zeros n j =
+        ⊎-elim
+        (λ (l : j < n). getD-replicate n j 0 0 l)
+        (λ (g : n ≤ j). List·getD-eq-default (replicate n 0) 0 (omega (arith, g, length-replicate {A = ℕ} n 0)))
+        (below-or j n)
 
 -- a chain is one from its own first id
 linked-own : (fat ids own : List ℕ) (start : ℕ) → own ≡ ids → Linked fat start ids → Linked fat (getD own 0 endOfChain) own
@@ -90,6 +106,13 @@ module _ (s : State) (img : List ℕ) (t : Tables) (room start : ℕ) where
           (length-marks (s .sectors) fat);
       frees = frees s img t room start z;
     }
+
+    -- document 01, 19: and the marks are zero past those of the sectors
+    pub blank-of : Blank (chainFrom s img t room start .hand)
+    unfolding chainFrom
+    blank-of i l =
+        ap (λ (xs : List ℕ). getD xs i 0) (agreed-marks (s .mode) img (s .used) (s .sectors) (s .free) (s .header) t (agrees s img t room start z))
+        ∙ zero-past (marksOf (s .sectors) fat) (length (t .marks)) i (omega (arith, l, length-marks (s .sectors) fat))
 
 -- document 01, Walk: the ids of a held chain are what the walk from its start lists
 pub held-walk : (S R : ℕ) (c : Chain) → FitsChain S R c → Held c → walkOf (fatHeld (c .hand .disk)) (startIn (c .ids) (c .count)) ≡ lists (idsOf c)
