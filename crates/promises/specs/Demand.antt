@@ -1,0 +1,138 @@
+-- What the customer's third demand speaks of: edits, what is in hand between two calls, and what a call makes of it, by the definitions that the contracts cite. Assumes nothing.
+use Prim.Native.Nat.{ℕ, _*_, _≤_, _<_}
+use mathlib.Core.Path.{_≡_}
+use mathlib.Core.List.{List, [], _∷_, _++_}
+use mathlib.Core.Logic.{_≢_}
+use lib.Dec.{eqb}
+use lib.ListN.{length, getD, take, replicate}
+use Rattle.lists.specs.Lists.{choose, splice}
+use Rattle.header.specs.declared.Validation.the-variants.{Strict}
+use Rattle.fat.specs.Lists.{ceil}
+use Rattle.sectors.specs.Sectors.{sectorOf}
+use Rattle.alloc.specs.Opening.{Tables, openNo, shortest}
+use Rattle.alloc.specs.Opened.{padded, tablesLeft}
+use Rattle.agree.specs.Agrees.{Permuted}
+use Rattle.chain.specs.Walk.{Outcome, lists}
+use Rattle.chain.specs.Bytes.{chainBytes}
+use Rattle.disk.specs.Needed.{writeMore}
+use Rattle.moves.specs.Hand.{Chain}
+use Rattle.moves.specs.Change.{resized, written}
+use Rattle.edits.specs.Roles.{fatsHeld, difatsHeld}
+use Rattle.cfb.specs.Calls.{stateLen, walked, chainIds}
+use Rattle.cfb.specs.Changes.{resizeNo, writeNo, chainFrom, stateFrom, tablesIn, startIn}
+use Rattle.cfb.specs.Face.{tablesOf, stateOf}
+use Rattle.cfb.specs.declared.State.{State}
+
+-- "image, state and tables handed on untouched between calls": what is in hand, each lent buffer over its whole length
+pub record InHand : Type 0 where
+  pub state : State
+  pub image : List ℕ
+  pub tables : Tables
+
+-- "writes, resizes and frees, each naming a chain by its first sector or the empty chain", which END names
+pub data Edit : Type 0 where
+  write : (start offset : ℕ) (buf : List ℕ) → Edit
+  resize : (start len : ℕ) → Edit
+  free : (start : ℕ) → Edit
+
+-- the chain that an edit names
+abbrev pub named : Edit → ℕ
+named (write start offset buf) = start
+named (resize start len) = start
+named (free start) = start
+
+-- the number that the call ends with, by document 01's table; an id list of so many places is lent. It is 0 exactly where no row stands against it (cfb, Exactly), so no call may refuse at will.
+abbrev pub editNo : InHand → ℕ → Edit → ℕ
+editNo h room (write start offset buf) = writeNo (h .state) (h .image) (h .tables) room start offset (length buf)
+editNo h room (resize start len) = resizeNo (h .state) (h .image) (h .tables) room start len
+editNo h room (free start) = resizeNo (h .state) (h .image) (h .tables) room start 0
+
+-- the chain that an edit names, before the call
+abbrev pub chainNamed : InHand → ℕ → Edit → Chain
+chainNamed h room e = chainFrom (h .state) (h .image) (h .tables) room (named e)
+
+-- and what an accepted call makes of it
+abbrev pub chainAfter : InHand → ℕ → Edit → Chain
+chainAfter h room (write start offset buf) = written (stateLen (h .state)) (chainNamed h room (write start offset buf)) offset buf
+chainAfter h room (resize start len) = resized (stateLen (h .state)) (chainNamed h room (resize start len)) len
+chainAfter h room (free start) = resized (stateLen (h .state)) (chainNamed h room (free start)) 0
+
+-- what is in hand of such a chain
+unfoldable pub handOf : State → Chain → InHand
+unfolding stateFrom tablesIn
+handOf s c = record { state = stateFrom s c; image = c .hand .disk .image; tables = tablesIn c }
+
+-- what is in hand after a call: a refused one leaves it
+unfoldable pub after : InHand → ℕ → Edit → InHand
+unfolding handOf
+after h room e = choose (eqb (editNo h room e) 0) (handOf (h .state) (chainAfter h room e)) h
+
+-- an edit, and how many places the id list has that is lent for it
+pub record Call : Type 0 where
+  pub room : ℕ
+  pub edit : Edit
+
+-- "any list of writes, resizes and frees, refused ones among them"
+unfoldable pub afterAll : InHand → List Call → InHand
+unfolding after
+afterAll h [] = h
+afterAll h (c ∷ cs) = afterAll (after h (c .room) (c .edit)) cs
+
+-- what a strict opening of the first used bytes leaves in hand, with lent tables t
+unfoldable pub opened : List ℕ → ℕ → Tables → InHand
+unfolding stateOf tablesLeft tablesOf
+opened img used t = record { state = stateOf 0 Strict img used; image = img; tables = tablesLeft 0 t (tablesOf img used) }
+
+-- the ids of the chain from x on, and its bytes
+abbrev pub idsFrom : InHand → ℕ → List ℕ
+idsFrom h x = chainIds (h .state) (h .tables) x
+
+abbrev pub bytesFrom : InHand → ℕ → List ℕ
+bytesFrom h x = chainBytes (stateLen (h .state)) (h .image) (idsFrom h x)
+
+-- the start that an accepted call answers: END for a chain of none
+abbrev pub startAfter : InHand → ℕ → Edit → ℕ
+startAfter h room e = startIn (chainAfter h room e .ids) (chainAfter h room e .count)
+
+-- "exactly that edit", of the bytes of a chain of sectors of S bytes: a write has zeros past the old end and the buffer over them from the offset on; a resize keeps the bytes below the new length and has zeros from there to the end of its sectors; a free leaves none
+abbrev pub edited : ℕ → Edit → List ℕ → ℕ → List ℕ
+edited S (write start offset buf) old count = splice (old ++ replicate (S * writeMore S count offset (length buf)) 0) offset buf
+edited S (resize start len) old count = padded (take len old) (S * ceil len S)
+edited S (free start) old count = []
+
+-- "a fresh strict opening of the bytes gives the state, FAT, lists and marks in hand, the free list in some order", with tables as long as those in hand
+pub record Fresh (h : InHand) : Type 0 where
+  pub opens : openNo Strict (h .image) (h .state .used) (shortest (h .tables)) ≡ 0
+  pub state : opened (h .image) (h .state .used) (h .tables) .state ≡ h .state
+  pub fat : opened (h .image) (h .state .used) (h .tables) .tables .fat ≡ h .tables .fat
+  pub fats : opened (h .image) (h .state .used) (h .tables) .tables .fats ≡ h .tables .fats
+  pub difats : opened (h .image) (h .state .used) (h .tables) .tables .difats ≡ h .tables .difats
+  pub marks : opened (h .image) (h .state .used) (h .tables) .tables .marks ≡ h .tables .marks
+  pub frees : Permuted (tablesOf (h .image) (h .state .used) .frees) (take (h .state .free) (h .tables .frees))
+  pub frees-rest : (i : ℕ) → h .state .free ≤ i → i < length (h .tables .frees) → getD (h .tables .frees) i 0 ≡ 0
+
+-- sector i was neither free nor in the named chain, and is no sector of the FAT or the DIFAT
+pub record Elsewhere (h : InHand) (room : ℕ) (e : Edit) (i : ℕ) : Type 0 where
+  pub inside : i < h .state .sectors
+  pub not-free : (p : ℕ) → p < h .state .free → getD (h .tables .frees) p 0 ≢ i
+  pub not-named : (p : ℕ) → p < length (idsFrom h (named e)) → getD (idsFrom h (named e)) p 0 ≢ i
+  pub not-fat : (p : ℕ) → p < fatsHeld (stateLen (h .state)) (chainNamed h room e .hand .disk) → getD (h .tables .fats) p 0 ≢ i
+  pub not-difat : (p : ℕ) → p < difatsHeld (stateLen (h .state)) (chainNamed h room e .hand .disk) → getD (h .tables .difats) p 0 ≢ i
+
+-- another chain: what its walk lists, from a start that is not one of the named chain's sectors
+pub record Another (h : InHand) (e : Edit) (x : ℕ) (ids : List ℕ) : Type 0 where
+  pub walks : walked (h .state) (h .tables) x ≡ lists ids
+  pub apart : (p : ℕ) → p < length (idsFrom h (named e)) → getD (idsFrom h (named e)) p 0 ≢ x
+
+-- the clauses of the demand about one call, which leaves h' in hand
+pub record Promised (h : InHand) (room : ℕ) (e : Edit) (h' : InHand) : Type 0 where
+  -- "After each call a fresh strict opening of the bytes gives the state, FAT, lists and marks in hand, the free list in some order."
+  pub fresh : Fresh h'
+  -- "After an accepted call the named chain holds its old bytes with exactly that edit;"
+  pub exactly : editNo h room e ≡ 0 → bytesFrom h' (startAfter h room e) ≡ edited (stateLen (h .state)) e (bytesFrom h (named e)) (length (idsFrom h (named e)))
+  -- "a refused one leaves every chain as it was."
+  pub refused : editNo h room e ≢ 0 → h' ≡ h
+  -- "Every sector neither free before nor in the named chain keeps its bytes, apart from FAT and DIFAT sectors,"
+  pub elsewhere : (i : ℕ) → Elsewhere h room e i → sectorOf (stateLen (h .state)) (h' .image) i ≡ sectorOf (stateLen (h .state)) (h .image) i
+  -- "and every other chain keeps its sectors in order."
+  pub others : (x : ℕ) (ids : List ℕ) → Another h e x ids → walked (h' .state) (h' .tables) x ≡ lists ids
