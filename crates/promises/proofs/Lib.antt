@@ -6,5 +6,6 @@ pub mod Forming
 pub mod Graph
 pub mod Growing
 pub mod Parts
+pub mod Reopening
 pub mod Shrinking
 pub mod Walks

@@ -1,0 +1,254 @@
+-- A strict opening of the bytes finds the tables in hand, and before a change the tables in hand are those that an opening finds. Assumes nothing.
+use Prim.Native.Nat.{ℕ, _+_, _-_, _*_, _/_, _%_, _≤_, _<_, min}
+use mathlib.Core.Path.{_≡_, refl, sym, _∙_, ap}
+use mathlib.Core.Bool.{Bool, true, false, not}
+use mathlib.Core.List.{List, [], _∷_, _++_}
+use mathlib.Core.Logic.{_⊎_, inl, inr, ⊎-elim}
+use native.Mathlib.Omega.{arith}
+use native.Mathlib.Nat.{add-mul, one-mul, mul-le-mul-right, mul-mod-left, mul-div-cancel}
+use borrow.Author.Tests.{le-ltb, ltb-false, not-false}
+use lib.ListN.{length, getD, take, drop, replicate, length-take, length-drop, length-replicate, getD-replicate, take-append-drop, List·getD-eq-default}
+use lib.Seq.{ext-getD, getD-drop, length-take-le}
+use Rattle.lists.specs.Lists.{part, sameList}
+use Rattle.lists.specs.Rows.{Row, row, refusal, distinct, fresh}
+use Rattle.lists.proofs.Cases.{below-or}
+use Rattle.lists.proofs.Pigeon.{pigeon}
+use Rattle.lists.proofs.Rows.{pass, given-none, append-accepts}
+use Rattle.lists.proofs.Splice.{getD-part}
+use Rattle.words.proofs.Laws.{le-ext}
+use Rattle.consts.specs.Consts.{signature}
+use Rattle.header.specs.Fields.{fatsAt, difatAt, majorAt, orderAt, shiftAt, miniAt, dirsAt, dirAt, cutoffAt, minifatAt, minifatsAt, offsetOf, widthOf, numberAt, lengthOf, listOf, idsThenFree, isStrict}
+use Rattle.header.specs.Read.{fixedOf, fixedRows, headerRows, readRows, readNo, headerOf}
+use Rattle.header.specs.declared.judge.Fixed.{Fixed}
+use Rattle.header.specs.declared.Header.{Header}
+use Rattle.header.specs.declared.Validation.{Validation}
+use Rattle.header.specs.declared.Validation.the-variants.{Strict}
+use Rattle.header.proofs.Given.{strict}
+use Rattle.fat.specs.Lists.{most, sectorsIn, roomOf, fatCount, difatCount, difatsIn, fatsIn}
+use Rattle.judge.specs.Judge.{marksOf, freesOf}
+use Rattle.judge.proofs.Judging.{frees-exactly, frees-ascend}
+use Rattle.alloc.specs.Opening.{Tables, firstRows, tableRows, openNo, openFat, openTables, shortest}
+use Rattle.alloc.specs.Opened.{padded}
+use Rattle.alloc.proofs.First.{early-passed}
+use Rattle.alloc.proofs.Filled.{front-padded, length-openFat, length-marks, length-fats, length-difats}
+use Rattle.agree.specs.Agrees.{FreesOnce, Held, Agrees}
+use Rattle.sound.specs.Sound.{Encodes, Sound, Accepts, SoundImage}
+use Rattle.sound.proofs.Sound.{strict-sound, opens-sound}
+use Rattle.moves.specs.Hand.{Hand}
+use Rattle.moves.specs.Fits.{FitsHand}
+use Rattle.disk.specs.Disk.{Disk}
+use Rattle.cfb.specs.Calls.{stateLen}
+use Rattle.cfb.specs.Changes.{changeNo, chainFrom}
+use Rattle.cfb.specs.declared.State.{State}
+use Rattle.cfb.proofs.Agreed.{parts, agreed-front}
+use Rattle.cfb.proofs.Fitted.{handIn, agreed-fits}
+use Rattle.cfb.proofs.Ready.{agrees, strict-mode}
+use Rattle.promises.specs.Coded.{Coded}
+use Rattle.promises.specs.Tails.{Tailed}
+use Rattle.promises.specs.Whole.{Formed, fatHeld, fatsList, difatsList}
+use Rattle.promises.proofs.Encoding.{encoded-coded, coded-encoded}
+use Rattle.promises.proofs.Walks.{zero-past}
+
+-- parts of equally long lists are the same where their elements are
+part-same : (b c : List ℕ) (o k : ℕ) → length b ≡ length c → ((i : ℕ) → i < k → getD b (o + i) 0 ≡ getD c (o + i) 0) → part b o k ≡ part c o k
+unfolding part
+part-same b c o k e h =
+    ext-getD 0 (part b o k) (part c o k)
+    (length-take k (drop o b) ∙ ap (min k) (length-drop o b ∙ ap (λ (m : ℕ). m - o) e ∙ sym (length-drop o c)) ∙ sym (length-take k (drop o c)))
+    (λ i l.
+    let s : i < k = omega (arith, l, length-take k (drop o b)) in
+    getD-part b o k i s ∙ h i s ∙ sym (getD-part c o k i s))
+
+-- the rows of a header, by its signature, its numbers and its list
+rows-same : (m : Validation) (p p' : List ℕ) (x x' : Fixed) (t t' : Bool) → p ≡ p' → x ≡ x' → t ≡ t'
+    → _≡_ {A = List Row} (row 2 (not (sameList p signature)) ∷ (fixedRows m x ++ (row 9 (not t) ∷ []))) (row 2 (not (sameList p' signature)) ∷ (fixedRows m x' ++ (row 9 (not t') ∷ [])))
+rows-same m p p' x x' t t' u v w = rw (u, v, w)
+
+-- MS-CFB 2.2: bytes of the header in the fields that no change stores
+pub record Alike (img img' : List ℕ) : Type 0 where
+  pub long : length img' ≡ length img
+  pub bytes : (b : ℕ) → (b < offsetOf fatsAt) ⊎ (offsetOf fatsAt + widthOf fatsAt ≤ b) → b < offsetOf difatAt → getD img' b 0 ≡ getD img b 0
+
+-- document 01, 2 to 9: what is read of a header whose other fields were changed, but for those
+pub record Headed (img img' : List ℕ) : Type 0 where
+  pub rows : refusal (headerRows Strict img') ≡ 0
+  pub version : headerOf img' .version ≡ headerOf img .version
+  pub dirs : headerOf img' .dirs ≡ headerOf img .dirs
+  pub dir : headerOf img' .dir ≡ headerOf img .dir
+  pub minifat : headerOf img' .minifat ≡ headerOf img .minifat
+  pub minifats : headerOf img' .minifats ≡ headerOf img .minifats
+
+module _ (img img' : List ℕ) (a : Alike img img') where
+  before-fats : (i : ℕ) → offsetOf i + widthOf i ≤ offsetOf fatsAt → numberAt img' i ≡ numberAt img i
+  unfolding numberAt
+  before-fats i h = le-ext (widthOf i) img' img (offsetOf i) (offsetOf i) (λ b l. a .bytes (offsetOf i + b) (inl (omega (arith, h, l))) (omega (arith, h, l)))
+
+  after-fats : (i : ℕ) → offsetOf fatsAt + widthOf fatsAt ≤ offsetOf i → offsetOf i + widthOf i ≤ offsetOf difatAt → numberAt img' i ≡ numberAt img i
+  unfolding numberAt
+  after-fats i g h = le-ext (widthOf i) img' img (offsetOf i) (offsetOf i) (λ b l. a .bytes (offsetOf i + b) (inr (omega (arith, g))) (omega (arith, h, l)))
+
+  fixed-same : fixedOf img' ≡ fixedOf img
+  unfolding fixedOf
+  fixed-same =
+      rw (
+        before-fats orderAt (omega arith),
+        before-fats majorAt (omega arith),
+        before-fats shiftAt (omega arith),
+        before-fats miniAt (omega arith),
+        before-fats dirsAt (omega arith),
+        after-fats cutoffAt (omega arith) (omega arith),
+      )
+
+  -- document 01, 2 to 9: it is read as before
+  pub headed : refusal (headerRows Strict img) ≡ 0 → idsThenFree (listOf img') ≡ true → Headed img img'
+  unfolding headerRows fixedRows headerOf distinct fresh
+  headed z t = record {
+    rows =
+        ap refusal (rows-same Strict (part img' 0 8) (part img 0 8) (fixedOf img') (fixedOf img) (idsThenFree (listOf img')) (idsThenFree (listOf img))
+        (part-same img' img 0 8 (a .long) (λ i l. a .bytes (0 + i) (inl (omega (arith, l))) (omega (arith, l))))
+        fixed-same
+        (t ∙ sym (not-false _ (given-none (headerRows Strict img) refl z 7 (omega arith)))))
+        ∙ z;
+    version = rw (before-fats majorAt (omega arith));
+    dirs = rw (before-fats majorAt (omega arith), before-fats dirsAt (omega arith));
+    dir = after-fats dirAt (omega arith) (omega arith);
+    minifat = after-fats minifatAt (omega arith) (omega arith);
+    minifats = after-fats minifatsAt (omega arith) (omega arith);
+  }
+
+-- a table with zeros past its count is its front and zeros
+tail-padded : (xs ys : List ℕ) (k : ℕ) → k ≤ length xs → take k xs ≡ ys → ((i : ℕ) → k ≤ i → getD xs i 0 ≡ 0) → xs ≡ padded ys (length xs)
+unfolding padded
+tail-padded xs ys k l e z =
+    let long : length ys ≡ k = ap length (sym e) ∙ length-take-le k xs l in
+    let rest : drop k xs ≡ replicate (length xs - k) 0 =
+    ext-getD 0 (drop k xs) (replicate (length xs - k) 0) (length-drop k xs ∙ sym (length-replicate {A = ℕ} (length xs - k) 0))
+    (λ i h. getD-drop k xs i 0 ∙ z (k + i) (omega arith) ∙ sym (getD-replicate (length xs - k) i 0 0 (omega (arith, h, length-drop k xs)))) in
+    sym (take-append-drop k xs) ∙ ap (λ (l : List ℕ). l ++ drop k xs) e ∙ ap (λ (l : List ℕ). ys ++ l) (rest ∙ ap (λ (m : ℕ). replicate (length xs - m) 0) (sym long))
+
+-- document 01: lists of the FREE sectors, each once, are no longer than one another
+once-few : (n : ℕ) (fat xs ys : List ℕ) → FreesOnce n fat xs → FreesOnce n fat ys → length xs ≤ length ys
+once-few n fat xs ys f g =
+    pigeon (length ys) (length xs) (λ i. pick i (below-or i (length xs)))
+    (λ i h. within i h (below-or i (length xs)))
+    (λ i j hi hj e.
+    f .once i j hi hj
+    (sym (picked i hi (below-or i (length xs))) ∙ ap (λ (p : ℕ). getD ys p 0) e ∙ picked j hj (below-or j (length xs))))
+  where
+    at : (i : ℕ) → i < length xs → (j : ℕ) × (j < length ys) × (getD ys j 0 ≡ getD xs i 0)
+    at i h = g .all (getD xs i 0) (f .below i h) (f .free i h)
+
+    pick : (i : ℕ) → (i < length xs) ⊎ (length xs ≤ i) → ℕ
+    pick i (inl h) = at i h .0
+    pick i (inr h) = 0
+
+    within : (i : ℕ) → i < length xs → (w : (i < length xs) ⊎ (length xs ≤ i)) → pick i w < length ys
+    within i l (inl h) = at i h .1
+    within i l (inr h) = absurd (omega (arith, l, h))
+
+    picked : (i : ℕ) → i < length xs → (w : (i < length xs) ⊎ (length xs ≤ i)) → getD ys (pick i w) 0 ≡ getD xs i 0
+    picked i l (inl h) = at i h .2
+    picked i l (inr h) = absurd (omega (arith, l, h))
+
+-- document 01: the ascending free list is one
+ascending-once : (n : ℕ) (fat : List ℕ) → FreesOnce n fat (freesOf n fat)
+ascending-once n fat = record {
+  below = λ j l. frees-exactly n fat (getD (freesOf n fat) j 0) .0 (j, l, refl) .0;
+  free = λ j l. frees-exactly n fat (getD (freesOf n fat) j 0) .0 (j, l, refl) .1;
+  once = λ i j hi hj e.
+      ⊎-elim
+      (λ (a : i < j). absurd (omega (arith, frees-ascend n fat i j a hj, e)))
+      (λ (a : j ≤ i). ⊎-elim (λ (b : j < i). absurd (omega (arith, frees-ascend n fat j i b hi, e))) (λ (b : i ≤ j). omega arith) (below-or j i))
+      (below-or i j);
+  all = λ i l e. frees-exactly n fat i .1 (l, e);
+}
+
+once-counts : (n : ℕ) (fat xs : List ℕ) → FreesOnce n fat xs → length xs ≡ length (freesOf n fat)
+once-counts n fat xs f = omega (arith, once-few n fat xs (freesOf n fat) f (ascending-once n fat), once-few n fat (freesOf n fat) xs (ascending-once n fat) f)
+
+once-own : (n : ℕ) (fat fat' xs : List ℕ) → fat ≡ fat' → FreesOnce n fat xs → FreesOnce n fat' xs
+once-own n fat fat' xs e f = rw e at f
+
+-- what is held of a count is held of an equal one
+held-own : (S : ℕ) (img : List ℕ) (h : Header) (n n' free : ℕ) (t : Tables) → n ≡ n' → Held n (openTables S img h n) free t → Held n' (openTables S img h n') free t
+held-own S img h n n' free t e q = rw e at q
+
+sound-own : (S : ℕ) (img : List ℕ) (h : Header) (n n' : ℕ) (fat fats difats : List ℕ) → n ≡ n' → Sound S img h n fat fats difats → Sound S img h n' fat fats difats
+sound-own S img h n n' fat fats difats e q = rw e at q
+
+-- the lent tables in hand
+abbrev pub tablesHand : Hand → Tables
+tablesHand h = record { fat = h .disk .fat; fats = h .disk .fats; difats = h .disk .difats; frees = h .frees; marks = h .marks }
+
+-- sectors that are one more than their bytes' own count
+count-whole : (S n : ℕ) → 1 ≤ S → sectorsIn S ((n + 1) * S) ≡ n
+unfolding sectorsIn
+count-whole S n some = let q : (n + 1) * S / S ≡ n + 1 = mul-div-cancel (n + 1) {n = S} some in omega (arith, q)
+
+module _ (h : Hand) where
+  abbrev img : List ℕ
+  img = h .disk .image
+
+  abbrev S : ℕ
+  S = lengthOf (headerOf img .version)
+
+  abbrev n : ℕ
+  n = h .disk .sectors
+
+  abbrev used : ℕ
+  used = (n + 1) * S
+
+  module _ (R : ℕ) (f : FitsHand S R h) (room : roomOf S (length img) ≤ R) (w : Formed S h) (c : Coded S (h .disk)) (t : Tailed S h) (z : refusal (headerRows Strict img) ≡ 0) where
+    counted : sectorsIn S used ≡ n
+    counted = count-whole S n (omega (arith, f .disk .header))
+
+    sound : Sound S img (headerOf img) n (fatHeld (h .disk)) (fatsList S (h .disk)) (difatsList S (h .disk))
+    sound = record { encodes = coded-encoded S R (h .disk) (f .disk) c; formed = w .tables }
+
+    accepts : Accepts S img (headerOf img) n (fatHeld (h .disk)) (fatsList S (h .disk)) (difatsList S (h .disk))
+    accepts = strict-sound S img (headerOf img) n _ _ _ .1 sound
+
+    fits : used ≤ length img
+    fits =
+        let m : (n + 1) * S ≤ (R + 1) * S = mul-le-mul-right S (omega (arith, f .disk .inside)) in
+        omega (arith, m, f .disk .holds .fits)
+
+    read : readNo Strict img ≡ 0
+    unfolding readNo readRows
+    read = pass 1 _ _ (le-ltb (length img) 512 (omega (arith, fits, add-mul n 1 S, one-mul S, f .disk .header))) ∙ z
+
+    long : roomOf S (length img) ≤ shortest (tablesHand h)
+    unfolding shortest
+    long = omega (arith, room, f .disk .fat-long, f .disk .fats-long, f .disk .difats-long, f .frees-long, f .marks-long)
+
+    first : refusal (firstRows Strict img used (shortest (tablesHand h))) ≡ 0
+    first =
+        sym (early-passed Strict img used (shortest (tablesHand h)) (omega (arith, add-mul n 1 S, one-mul S, f .disk .header)) fits read (mul-mod-left (n + 1) S)
+        (omega (arith, counted, f .disk .inside, f .disk .few)) long)
+
+    frees-long : length (take (h .free) (h .frees)) ≡ h .free
+    frees-long = length-take-le (h .free) (h .frees) (omega (arith, f .free-few, f .disk .inside, f .frees-long))
+
+    frees-once : FreesOnce n (openFat S img (headerOf img) n) (take (h .free) (h .frees))
+    frees-once = once-own n _ _ _ (accepts .fat-is) (w .frees)
+
+    holds : Held n (openTables S img (headerOf img) n) (h .free) (tablesHand h)
+    unfolding openTables
+    holds = record {
+      fat = tail-padded (h .disk .fat) _ n (omega (arith, f .disk .inside, f .disk .fat-long)) (accepts .fat-is) (t .fat);
+      fats = tail-padded (h .disk .fats) _ _ (omega (arith, f .disk .fats-many, f .disk .fats-long)) (accepts .fats-are) (t .fats);
+      difats = tail-padded (h .disk .difats) _ _ (omega (arith, f .disk .difats-many, f .disk .difats-long)) (accepts .difats-are) (t .difats);
+      marks = tail-padded (h .marks) _ n (omega (arith, f .disk .inside, f .marks-long)) (w .marks ∙ ap (marksOf n) (accepts .fat-is)) (t .marks);
+      count = sym frees-long ∙ once-counts n (openFat S img (headerOf img) n) (take (h .free) (h .frees)) frees-once;
+      frees = frees-once;
+      rest = λ j g l. t .frees j g;
+    }
+
+    -- document 01, 19: a strict opening of the bytes in hand finds the tables in hand
+    pub reopens : Agrees Strict img used n (h .free) (headerOf img) (tablesHand h)
+    reopens = record {
+      opens = opens-sound img used (shortest (tablesHand h)) .1 (first, record { fat = _; fats = _; difats = _; sound = sound-own S img (headerOf img) n _ _ _ _ (sym counted) sound });
+      header = refl;
+      count = sym counted;
+      tables = held-own S img (headerOf img) n _ (h .free) (tablesHand h) (sym counted) holds;
+    }
