@@ -1,7 +1,7 @@
 -- A strict opening of the bytes finds the tables in hand, and before a change the tables in hand are those that an opening finds. Assumes nothing.
-use Prim.Native.Nat.{ℕ, _+_, _-_, _*_, _/_, _%_, _≤_, _<_, min}
+use Prim.Native.Nat.{ℕ, _+_, _-_, _*_, _/_, _≤_, _<_, min}
 use mathlib.Core.Path.{_≡_, refl, sym, _∙_, ap}
-use mathlib.Core.Bool.{Bool, true, false, not}
+use mathlib.Core.Bool.{Bool, true, not}
 use mathlib.Core.List.{List, [], _∷_, _++_}
 use mathlib.Core.Logic.{_⊎_, inl, inr, ⊎-elim}
 use native.Mathlib.Omega.{arith}
@@ -24,19 +24,18 @@ use Rattle.header.specs.declared.Header.{Header}
 use Rattle.header.specs.declared.Validation.{Validation}
 use Rattle.header.specs.declared.Validation.the-variants.{Strict}
 use Rattle.header.proofs.Given.{strict}
-use Rattle.fat.specs.Lists.{most, sectorsIn, roomOf, fatCount, difatCount, difatsIn, fatsIn}
+use Rattle.fat.specs.Lists.{sectorsIn, roomOf, difatsIn, fatsIn}
 use Rattle.judge.specs.Judge.{marksOf, freesOf}
 use Rattle.judge.proofs.Judging.{frees-exactly, frees-ascend}
-use Rattle.alloc.specs.Opening.{Tables, firstRows, tableRows, openNo, openFat, openTables, shortest}
+use Rattle.alloc.specs.Opening.{Tables, firstRows, tableRows, openFat, openTables, shortest}
 use Rattle.alloc.specs.Opened.{padded}
 use Rattle.alloc.proofs.First.{early-passed}
 use Rattle.alloc.proofs.Filled.{front-padded, length-openFat, length-marks, length-fats, length-difats}
 use Rattle.agree.specs.Agrees.{FreesOnce, Held, Agrees}
-use Rattle.sound.specs.Sound.{Encodes, Sound, Accepts, SoundImage}
+use Rattle.sound.specs.Sound.{Encodes, Sound, Accepts}
 use Rattle.sound.proofs.Sound.{strict-sound, opens-sound}
 use Rattle.moves.specs.Hand.{Hand}
 use Rattle.moves.specs.Fits.{FitsHand}
-use Rattle.disk.specs.Disk.{Disk}
 use Rattle.cfb.specs.Calls.{stateLen}
 use Rattle.cfb.specs.Changes.{changeNo, chainFrom}
 use Rattle.cfb.specs.declared.State.{State}
@@ -252,3 +251,118 @@ module _ (h : Hand) where
       count = sym counted;
       tables = held-own S img (headerOf img) n _ (h .free) (tablesHand h) (sym counted) holds;
     }
+
+-- an image that opens, with tables that hold what the opening gives
+module _ (m : Validation) (img : List ℕ) (used free : ℕ) (t : Tables) where
+  abbrev ownLen : ℕ
+  ownLen = lengthOf (headerOf img .version)
+
+  abbrev own : ℕ
+  own = sectorsIn ownLen used
+
+  abbrev ownTables : Tables
+  ownTables = openTables ownLen img (headerOf img) own
+
+  module _ (a : Agrees m img used own free (headerOf img) t) where
+    firsts : refusal (firstRows m img used (shortest t)) ≡ 0
+    firsts = parts m img used (shortest t) (a .opens) .0
+
+    -- document 01, 2 to 9 and 11
+    rows-own : refusal (headerRows m img) ≡ 0
+    unfolding firstRows headerRows fixedRows distinct fresh
+    rows-own =
+        let none = given-none (firstRows m img used (shortest t)) refl firsts in
+        append-accepts (headerRows m img) _ refl .0 (sym (pass 1 _ _ (none 0 (omega arith))) ∙ firsts) .0
+
+    list-own : idsThenFree (listOf img) ≡ true
+    unfolding headerRows fixedRows distinct fresh
+    list-own = not-false _ (given-none (headerRows m img) refl rows-own 7 (omega arith))
+
+    long-own : roomOf ownLen (length img) ≤ shortest t
+    unfolding firstRows headerRows fixedRows distinct fresh
+    long-own = ltb-false _ _ (given-none (firstRows m img used (shortest t)) refl firsts 10 (omega arith))
+
+    fits-own : FitsHand ownLen (roomOf ownLen (length img)) (handIn img own free t)
+    fits-own = agreed-fits m img used own free (headerOf img) t a long-own
+
+    -- MS-CFB 2.2, 2.3, 2.5: the bytes encode those tables
+    encodes-own : isStrict m ≡ true → Encodes ownLen img (headerOf img) own (openFat ownLen img (headerOf img) own) (fatsIn ownLen img (headerOf img) own) (difatsIn ownLen img (headerOf img) own)
+    encodes-own s =
+        strict-sound ownLen img (headerOf img) own _ _ _ .0
+        (record {
+          number = ap (λ (b : Bool). refusal (tableRows b ownLen img (headerOf img) own)) (sym s) ∙ parts m img used (shortest t) (a .opens) .1;
+          fat-is = refl;
+          fats-are = refl;
+          difats-are = refl;
+        })
+        .encodes
+
+    coded-own : isStrict m ≡ true → Coded ownLen (handIn img own free t .disk)
+    unfolding openTables
+    coded-own s =
+        encoded-coded ownLen _ (handIn img own free t .disk) (fits-own .disk)
+        (encodes-as
+        (sym (agreed-front m img used own free (headerOf img) t a))
+        (sym (front-padded _ (t .fats) _ (length (t .fats)) (a .tables .fats) (length-fats ownLen img (headerOf img) own)))
+        (sym (front-padded _ (t .difats) _ (length (t .difats)) (a .tables .difats) (length-difats ownLen img (headerOf img) own)))
+        (encodes-own s))
+        list-own
+      where
+        encodes-as : {fat fat' fats fats' difats difats' : List ℕ} → fat ≡ fat' → fats ≡ fats' → difats ≡ difats' → Encodes ownLen img (headerOf img) own fat fats difats
+            → Encodes ownLen img (headerOf img) own fat' fats' difats'
+        encodes-as p q r e = rw (p, q, r) at e
+
+    tailed-own : Tailed ownLen (handIn img own free t)
+    unfolding openTables
+    tailed-own = record {
+      fat = λ i l. past (t .fat) _ i (a .tables .fat) (omega (arith, l, length-openFat ownLen img (headerOf img) own));
+      fats = λ i l. past (t .fats) _ i (a .tables .fats) (omega (arith, l, length-fats ownLen img (headerOf img) own));
+      difats = λ i l. past (t .difats) _ i (a .tables .difats) (omega (arith, l, length-difats ownLen img (headerOf img) own));
+      frees = λ i l. ⊎-elim (λ (h : i < length (t .frees)). a .tables .rest i l h) (λ (g : length (t .frees) ≤ i). List·getD-eq-default (t .frees) 0 g) (below-or i (length (t .frees)));
+      marks = λ i l. past (t .marks) _ i (a .tables .marks) (omega (arith, l, length-marks own (openFat ownLen img (headerOf img) own)));
+    }
+      where
+        past : (now xs : List ℕ) (i : ℕ) → now ≡ padded xs (length now) → length xs ≤ i → getD now i 0 ≡ 0
+        past now xs i e g = ap (λ (l : List ℕ). getD l i 0) e ∙ zero-past xs (length now) i g
+
+-- what agrees, with the header and the count of the image
+agrees-own : (m : Validation) (img : List ℕ) (used sectors n free : ℕ) (h h' : Header) (t : Tables) → h ≡ h' → sectors ≡ n → Agrees m img used sectors free h t → Agrees m img used n free h' t
+agrees-own m img used sectors n free h h' t p q a = rw (p, q) at a
+
+coded-as : (img : List ℕ) (n n' free : ℕ) (h h' : Header) (t : Tables) → h ≡ h' → n ≡ n' → Coded (lengthOf (h .version)) (handIn img n free t .disk) → Coded (lengthOf (h' .version)) (handIn img n' free t .disk)
+coded-as img n n' free h h' t p q c = rw (p, q) at c
+
+tailed-as : (img : List ℕ) (n n' free : ℕ) (h h' : Header) (t : Tables) → h ≡ h' → n ≡ n' → Tailed (lengthOf (h .version)) (handIn img n free t) → Tailed (lengthOf (h' .version)) (handIn img n' free t)
+tailed-as img n n' free h h' t p q c = rw (p, q) at c
+
+-- document 01, 19: state and tables that agree with their image
+module _ (m : Validation) (img : List ℕ) (used sectors free : ℕ) (h : Header) (t : Tables) (a : Agrees m img used sectors free h t) where
+  as-own : Agrees m img used (own m img used free t) free (headerOf img) t
+  as-own = agrees-own m img used sectors _ free h (headerOf img) t (a .header) (a .count) a
+
+  -- the bytes say what the tables say
+  pub agreed-coded : isStrict m ≡ true → Coded (lengthOf (h .version)) (handIn img sectors free t .disk)
+  agreed-coded s = coded-as img _ sectors free (headerOf img) h t (sym (a .header)) (sym (a .count)) (coded-own m img used free t as-own s)
+
+  -- the tables are zero past their counts
+  pub agreed-tailed : Tailed (lengthOf (h .version)) (handIn img sectors free t)
+  agreed-tailed = tailed-as img _ sectors free (headerOf img) h t (sym (a .header)) (sym (a .count)) (tailed-own m img used free t as-own)
+
+  -- the header passes its rows
+  pub agreed-headed : refusal (headerRows m img) ≡ 0
+  agreed-headed = rows-own m img used free t as-own
+
+-- the chain in hand before a change that nothing before 23 stands against
+module _ (s : State) (img : List ℕ) (t : Tables) (room start : ℕ) (z : changeNo s img t room start ≡ 0) where
+  pub before-coded : Coded (stateLen s) (chainFrom s img t room start .hand .disk)
+  unfolding chainFrom
+  before-coded = agreed-coded (s .mode) img (s .used) (s .sectors) (s .free) (s .header) t (agrees s img t room start z) (strict-mode s img t room start z)
+
+  pub before-tailed : Tailed (stateLen s) (chainFrom s img t room start .hand)
+  unfolding chainFrom
+  before-tailed = agreed-tailed (s .mode) img (s .used) (s .sectors) (s .free) (s .header) t (agrees s img t room start z)
+
+  pub before-headed : refusal (headerRows Strict img) ≡ 0
+  before-headed =
+      ap (λ (m : Validation). refusal (headerRows m img)) (sym (strict (s .mode) (strict-mode s img t room start z)))
+      ∙ agreed-headed (s .mode) img (s .used) (s .sectors) (s .free) (s .header) t (agrees s img t room start z)
