@@ -1,3 +1,4 @@
+pub mod After
 pub mod Base
 pub mod Calls
 pub mod Encoding

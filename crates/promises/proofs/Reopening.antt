@@ -1,6 +1,6 @@
 -- A strict opening of the bytes finds the tables in hand, and before a change the tables in hand are those that an opening finds. Assumes nothing.
 use Prim.Native.Nat.{ℕ, _+_, _-_, _*_, _/_, _≤_, _<_, min}
-use mathlib.Core.Path.{_≡_, refl, sym, _∙_, ap}
+use mathlib.Core.Path.{_≡_, refl, sym, _∙_, ap, subst}
 use mathlib.Core.Bool.{Bool, true, not}
 use mathlib.Core.List.{List, [], _∷_, _++_}
 use mathlib.Core.Logic.{_⊎_, inl, inr, ⊎-elim}
@@ -366,3 +366,15 @@ module _ (s : State) (img : List ℕ) (t : Tables) (room start : ℕ) (z : chang
   before-headed =
       ap (λ (m : Validation). refusal (headerRows m img)) (sym (strict (s .mode) (strict-mode s img t room start z)))
       ∙ agreed-headed (s .mode) img (s .used) (s .sectors) (s .free) (s .header) t (agrees s img t room start z)
+
+-- the same over a sector's length that is the version's own
+pub reopens-at : (h : Hand) (S R : ℕ) → lengthOf (headerOf (h .disk .image) .version) ≡ S → FitsHand S R h → roomOf S (length (h .disk .image)) ≤ R → Formed S h → Coded S (h .disk) → Tailed S h
+    → refusal (headerRows Strict (h .disk .image)) ≡ 0 → Agrees Strict (h .disk .image) ((h .disk .sectors + 1) * S) (h .disk .sectors) (h .free) (headerOf (h .disk .image)) (tablesHand h)
+reopens-at h S R e f room w c t z =
+    subst
+    (λ (x : ℕ).
+    FitsHand x R h → roomOf x (length (h .disk .image)) ≤ R → Formed x h → Coded x (h .disk) → Tailed x h
+    → Agrees Strict (h .disk .image) ((h .disk .sectors + 1) * x) (h .disk .sectors) (h .free) (headerOf (h .disk .image)) (tablesHand h))
+    e
+    (λ f' room' w' c' t'. reopens h R f' room' w' c' t' z)
+    f room w c t
