@@ -37,7 +37,7 @@ abbrev pub AgreesAfter : State → Chain → Type 0
 AgreesAfter s c =
     Agrees Strict (c .hand .disk .image) (stateFrom s c .used) (stateFrom s c .sectors) (stateFrom s c .free) (stateFrom s c .header) (tablesIn c)
 
--- in the state's own mode, which is strict
+-- document 01, 19: what agrees in strict mode agrees in the state's own, where that is strict
 pub agreed-after : (s : State) (c : Chain) → stateFrom s c .mode ≡ Strict → AgreesAfter s c → Agreed (stateFrom s c) (c .hand .disk .image) (tablesIn c)
 agreed-after s c e a =
     subst (λ (m : Validation). Agrees m (c .hand .disk .image) (stateFrom s c .used) (stateFrom s c .sectors) (stateFrom s c .free) (stateFrom s c .header) (tablesIn c)) (sym e) a
@@ -67,12 +67,13 @@ module _ (s : State) (img : List ℕ) (t : Tables) (room start : ℕ) where
       after-len =
           ap lengthOf (after-headed .version) ∙ ap (λ (h : Header). lengthOf (h .version)) (sym (agrees s img t room start z .header))
 
+      -- document 01, 19: the state, the image and the tables that the change leaves agree
       pub after-agrees : AgreesAfter s c
       unfolding stateFrom tablesIn
       after-agrees =
           reopens-at (c .hand) (stateLen s) R after-len (f .fits) (omega (arith, ap (roomOf (stateLen s)) long)) w coded tailed (after-headed .rows)
 
-  -- the mode stays
+  -- document 01: the state that a change leaves is strict
   pub after-strict : changeNo s img t room start ≡ 0 → (c : Chain) → stateFrom s c .mode ≡ Strict
   unfolding stateFrom
   after-strict z c = strict (s .mode) (strict-mode s img t room start z)
@@ -90,6 +91,7 @@ module _ (s : State) (img : List ℕ) (t : Tables) (room start : ℕ) where
         (resized-long (stateLen s) R len before (resize-fits s img t room start len z) .hand .disk .image-same)
         (resize-leaves s img t room start len z) (resize-forms s img t room start len z) coded tailed
 
+    -- and the state is strict
     pub resize-strict : stateFrom s resizedChain .mode ≡ Strict
     resize-strict = after-strict (resize-rows s img t room start len z .0) resizedChain
 
@@ -106,5 +108,6 @@ module _ (s : State) (img : List ℕ) (t : Tables) (room start : ℕ) where
         (written-long (stateLen s) R offset buf before (write-fits s img t room start offset buf z) .hand .disk .image-same)
         (write-leaves s img t room start offset buf z) (write-forms s img t room start offset buf z) coded tailed
 
+    -- and the state is strict
     pub write-strict : stateFrom s writtenChain .mode ≡ Strict
     write-strict = after-strict (write-rows s img t room start offset buf z .0) writtenChain

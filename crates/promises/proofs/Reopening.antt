@@ -63,12 +63,12 @@ rows-same : (m : Validation) (p p' : List ℕ) (x x' : Fixed) (t t' : Bool) → 
     → _≡_ {A = List Row} (row 2 (not (sameList p signature)) ∷ (fixedRows m x ++ (row 9 (not t) ∷ []))) (row 2 (not (sameList p' signature)) ∷ (fixedRows m x' ++ (row 9 (not t') ∷ [])))
 rows-same m p p' x x' t t' u v w = rw (u, v, w)
 
--- MS-CFB 2.2: bytes of the header in the fields that no change stores
+-- MS-CFB 2.2: two images of one length have the same bytes in the header's fields that no change stores: all below 68 but those of the FAT's count
 pub record Alike (img img' : List ℕ) : Type 0 where
   pub long : length img' ≡ length img
   pub bytes : (b : ℕ) → (b < offsetOf fatsAt) ⊎ (offsetOf fatsAt + widthOf fatsAt ≤ b) → b < offsetOf difatAt → getD img' b 0 ≡ getD img b 0
 
--- document 01, 2 to 9: what is read of a header whose other fields were changed, but for those
+-- document 01, 2 to 9: the second image's header is accepted, and those fields are read as the first one's
 pub record Headed (img img' : List ℕ) : Type 0 where
   pub rows : refusal (headerRows Strict img') ≡ 0
   pub version : headerOf img' .version ≡ headerOf img .version
@@ -98,7 +98,7 @@ module _ (img img' : List ℕ) (a : Alike img img') where
         after-fats cutoffAt (omega arith) (omega arith),
       )
 
-  -- document 01, 2 to 9: it is read as before
+  -- document 01, 2 to 9: such a header is accepted where the first one is and its own list is sector numbers and then FREE
   pub headed : refusal (headerRows Strict img) ≡ 0 → idsThenFree (listOf img') ≡ true → Headed img img'
   unfolding headerRows fixedRows headerOf distinct fresh
   headed z t = record {
@@ -340,34 +340,37 @@ module _ (m : Validation) (img : List ℕ) (used sectors free : ℕ) (h : Header
   as-own : Agrees m img used (own m img used free t) free (headerOf img) t
   as-own = agrees-own m img used sectors _ free h (headerOf img) t (a .header) (a .count) a
 
-  -- the bytes say what the tables say
+  -- MS-CFB 2.2, 2.3, 2.5: the bytes of a strict opening say what the tables say
   pub agreed-coded : isStrict m ≡ true → Coded (lengthOf (h .version)) (handIn img sectors free t .disk)
   agreed-coded s = coded-as img _ sectors free (headerOf img) h t (sym (a .header)) (sym (a .count)) (coded-own m img used free t as-own s)
 
-  -- the tables are zero past their counts
+  -- document 01, 19: the tables are zero past their counts
   pub agreed-tailed : Tailed (lengthOf (h .version)) (handIn img sectors free t)
   agreed-tailed = tailed-as img _ sectors free (headerOf img) h t (sym (a .header)) (sym (a .count)) (tailed-own m img used free t as-own)
 
-  -- the header passes its rows
+  -- document 01, 2 to 9: the header is accepted
   pub agreed-headed : refusal (headerRows m img) ≡ 0
   agreed-headed = rows-own m img used free t as-own
 
 -- the chain in hand before a change that nothing before 23 stands against
 module _ (s : State) (img : List ℕ) (t : Tables) (room start : ℕ) (z : changeNo s img t room start ≡ 0) where
+  -- MS-CFB 2.2, 2.3, 2.5: the bytes say what its tables say
   pub before-coded : Coded (stateLen s) (chainFrom s img t room start .hand .disk)
   unfolding chainFrom
   before-coded = agreed-coded (s .mode) img (s .used) (s .sectors) (s .free) (s .header) t (agrees s img t room start z) (strict-mode s img t room start z)
 
+  -- document 01, 19: its tables are zero past their counts
   pub before-tailed : Tailed (stateLen s) (chainFrom s img t room start .hand)
   unfolding chainFrom
   before-tailed = agreed-tailed (s .mode) img (s .used) (s .sectors) (s .free) (s .header) t (agrees s img t room start z)
 
+  -- document 01, 2 to 9: the image's header passes a strict reading
   pub before-headed : refusal (headerRows Strict img) ≡ 0
   before-headed =
       ap (λ (m : Validation). refusal (headerRows m img)) (sym (strict (s .mode) (strict-mode s img t room start z)))
       ∙ agreed-headed (s .mode) img (s .used) (s .sectors) (s .free) (s .header) t (agrees s img t room start z)
 
--- the same over a sector's length that is the version's own
+-- document 01, 19: the same, with the sector's length as another number
 pub reopens-at : (h : Hand) (S R : ℕ) → lengthOf (headerOf (h .disk .image) .version) ≡ S → FitsHand S R h → roomOf S (length (h .disk .image)) ≤ R → Formed S h → Coded S (h .disk) → Tailed S h
     → refusal (headerRows Strict (h .disk .image)) ≡ 0 → Agrees Strict (h .disk .image) ((h .disk .sectors + 1) * S) (h .disk .sectors) (h .free) (headerOf (h .disk .image)) (tablesHand h)
 reopens-at h S R e f room w c t z =
