@@ -1,9 +1,12 @@
+pub mod After
 pub mod Base
 pub mod Calls
+pub mod Encoding
 pub mod Entries
 pub mod Forming
 pub mod Graph
 pub mod Growing
 pub mod Parts
+pub mod Reopening
 pub mod Shrinking
 pub mod Walks

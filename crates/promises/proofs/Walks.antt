@@ -38,7 +38,7 @@ use Rattle.promises.proofs.Graph.{getD-any, held-length}
 use Rattle.promises.proofs.Parts.{Blank}
 
 -- past a list that zeros follow there are zeros
-zero-past : (xs : List ℕ) (m i : ℕ) → length xs ≤ i → getD (padded xs m) i 0 ≡ 0
+pub zero-past : (xs : List ℕ) (m i : ℕ) → length xs ≤ i → getD (padded xs m) i 0 ≡ 0
 unfolding padded
 zero-past xs m i h =
     let here : i ≡ length xs + (i - length xs) = omega arith in

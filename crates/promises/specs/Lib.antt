@@ -1,3 +1,4 @@
 pub mod Coded
 pub mod Demand
+pub mod Tails
 pub mod Whole
