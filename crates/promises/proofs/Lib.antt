@@ -5,5 +5,7 @@ pub mod Forming
 pub mod Graph
 pub mod Growing
 pub mod Parts
+pub mod Placing
 pub mod Shrinking
+pub mod Stores
 pub mod Walks
