@@ -1,5 +1,6 @@
 pub mod Base
 pub mod Calls
+pub mod Coding
 pub mod Entries
 pub mod Forming
 pub mod Graph
@@ -7,5 +8,6 @@ pub mod Growing
 pub mod Parts
 pub mod Placing
 pub mod Shrinking
+pub mod Standing
 pub mod Stores
 pub mod Walks

@@ -265,6 +265,15 @@ module _ (S : ℕ) (e : S ≡ 4 * perSector S) (many : 128 ≤ perSector S) wher
       (λ s. let q : i - 1 ≡ j - 1 = once (i - 1) (j - 1) (omega (arith, h)) (omega (arith, h)) s in absurd (omega (arith, q, h, z)))))
       (same-or i 0))
 
+  -- a link stands clear of the sectors that are none of the DIFAT's
+  pub link-other : (difats : List ℕ) (j b x : ℕ) → ((q : ℕ) → q < j → getD difats q 0 ≢ b) → x < perSector S → Clear (linkPlace S difats j) 4 (slot S b x)
+  link-other difats j b x new h =
+      ⊎-elim
+      (λ (z : j ≡ 0). rw (link-first difats j z) (slot-field S (offsetOf difatAt) b x (omega (arith, e, many)) (omega arith)))
+      (λ (z : j ≢ 0). rw (link-next difats j z)
+      (slots-clear S _ b (perSector S - 1) x last-fits (slot-fits x h) (λ s. absurd (new (j - 1) (omega (arith, z)) (sym s)))))
+      (same-or j 0)
+
   -- a DIFAT sector that ends the chain is linked behind the others
   pub links-more : (img difats : List ℕ) (j id : ℕ) → Once difats j → ((q : ℕ) → q < j → getD difats q 0 ≢ id) → j < length difats → id < 2 ^ 32
       → linkPlace S difats j + 4 ≤ length img → FreshDifat S id img → Links S img difats j
@@ -284,7 +293,7 @@ module _ (S : ℕ) (e : S ≡ 4 * perSector S) (many : 128 ≤ perSector S) wher
             ∙ r .each i low
             ∙ sym (set-stays difats j id i low))
             (same-or i j);
-        last = inl (ap (le 4 after) (link-next (set difats j id) (suc j) (omega arith) ∙ own) ∙ number-same img (linkPlace S difats j) id (slot S id (perSector S - 1)) inside apart ∙ fresh .ends);
+        last = inl (ap (le 4 after) (link-next (set difats j id) (suc j) (omega arith) ∙ own) ∙ number-same img (linkPlace S difats j) id (slot S id (perSector S - 1)) inside (link-other difats j id (perSector S - 1) new (omega (arith, many))) ∙ fresh .ends);
       }
     where
       after : List ℕ
@@ -302,14 +311,6 @@ module _ (S : ℕ) (e : S ≡ 4 * perSector S) (many : 128 ≤ perSector S) wher
       own =
           let q : suc j - 1 ≡ j = omega arith in
           ap (λ (a : ℕ). slot S a (perSector S - 1)) (ap (λ (y : ℕ). getD (set difats j id) y 0) q ∙ getD-set-same difats j id 0 long)
-
-      apart : Clear (linkPlace S difats j) 4 (slot S id (perSector S - 1))
-      apart =
-          ⊎-elim
-          (λ (z : j ≡ 0). rw (link-first difats j z) (slot-field S (offsetOf difatAt) id (perSector S - 1) (omega (arith, e, many)) (omega arith)))
-          (λ (z : j ≢ 0). rw (link-next difats j z)
-          (slots-clear S _ id (perSector S - 1) (perSector S - 1) last-fits last-fits (λ s. absurd (new (j - 1) (omega (arith, z)) (sym s)))))
-          (same-or j 0)
 
   -- a place and a link stand clear of the FAT's sectors, of each other, and of the header's fields before them
   pub place-fats : (fats difats : List ℕ) (k j p q x : ℕ) → Separate fats k difats j → p < 109 + j * (perSector S - 1) → q < k → x < perSector S
@@ -336,12 +337,7 @@ module _ (S : ℕ) (e : S ≡ 4 * perSector S) (many : 128 ≤ perSector S) wher
       (below-or p 109)
 
   pub link-fats : (fats difats : List ℕ) (k j q x : ℕ) → Separate fats k difats j → q < k → x < perSector S → Clear (linkPlace S difats j) 4 (slot S (getD fats q 0) x)
-  link-fats fats difats k j q x apart hq hx =
-      ⊎-elim
-      (λ (z : j ≡ 0). rw (link-first difats j z) (slot-field S (offsetOf difatAt) _ _ (omega (arith, e, many)) (omega arith)))
-      (λ (z : j ≢ 0). rw (link-next difats j z)
-      (slots-clear S _ _ (perSector S - 1) x last-fits (slot-fits x hx) (λ s. absurd (apart q (j - 1) hq (omega (arith, z)) s))))
-      (same-or j 0)
+  link-fats fats difats k j q x apart hq hx = link-other difats j (getD fats q 0) x (λ p hp s. apart q p hq hp (sym s)) hx
 
   pub link-places : (difats : List ℕ) (j q x : ℕ) → x < perSector S - 1 → Clear (linkPlace S difats j) 4 (slot S (getD difats q 0) x)
   link-places difats j q x h =

@@ -123,6 +123,10 @@ pub record FreshDifat (S a : ℕ) (img : List ℕ) : Type 0 where
   pub frees : (x : ℕ) → x < perSector S - 1 → le 4 img (slot S a x) ≡ freeSector
   pub ends : le 4 img (slot S a (perSector S - 1)) ≡ endOfChain
 
+pub fresh-same : (S a : ℕ) (img after : List ℕ) → 1 ≤ perSector S → ((x : ℕ) → x < perSector S → SameAt img after (slot S a x)) → FreshDifat S a img → FreshDifat S a after
+fresh-same S a img after some same f =
+    record { frees = λ x h. same x (omega (arith, h)) ∙ f .frees x h; ends = same (perSector S - 1) (omega (arith, some)) ∙ f .ends }
+
 pub fresh-difat : (S a : ℕ) (img : List ℕ) → S ≡ 4 * perSector S → 1 ≤ perSector S → startOf S a + S ≤ length img
     → FreshDifat S a (splice img (startOf S a) (initBytes S Difat))
 unfolding initBytes
