@@ -2,7 +2,7 @@
 use Prim.Native.Nat.{ℕ, suc, _+_, _-_, _*_, _/_, _%_, _^_, _≤_, _<_}
 use mathlib.Core.Path.{_≡_, refl, _∙_, sym, ap}
 use mathlib.Core.List.{List}
-use mathlib.Core.Logic.{_⊎_, inl, inr, ⊎-elim, _≢_}
+use mathlib.Core.Logic.{inl, inr, ⊎-elim, _≢_}
 use native.Mathlib.Omega.{arith}
 use native.Mathlib.Nat.{suc-mul, add-mul, one-mul, div-add-mod, mod-lt, div-lt-iff-lt-mul, div-eq-of-lt-le}
 use borrow.Author.Tests.{lt-ltb, le-ltb, eq-eqb, ne-eqb}
@@ -11,10 +11,9 @@ use lib.Seq.{getD-set-same, getD-set-other}
 use Rattle.lists.specs.Lists.{splice}
 use Rattle.lists.proofs.Cases.{below-or, same-or}
 use Rattle.words.specs.Words.{le, digits}
-use Rattle.consts.specs.Consts.{endOfChain, freeSector}
+use Rattle.consts.specs.Consts.{freeSector}
 use Rattle.header.specs.Fields.{difatAt, entriesAt, offsetOf}
 use Rattle.sectors.specs.Sectors.{startOf, perSector}
-use Rattle.sound.specs.Sound.{Ends}
 use Rattle.disk.specs.Disk.{entryPlace, linkPlace}
 use Rattle.edits.specs.Roles.{Once, Separate}
 use Rattle.promises.specs.Coded.{placeOf, Entries, Places, Links}

@@ -1,8 +1,8 @@
 -- A disk whose bytes say its tables keeps doing so at every store of the allocator, the counts in its header apart (document 01, "Calls on a chain"; MS-CFB 2.2, 2.3, 2.5). Assumes nothing.
-use Prim.Native.Nat.{ℕ, suc, _+_, _-_, _*_, _/_, _%_, _^_, _≤_, _<_}
+use Prim.Native.Nat.{ℕ, suc, _+_, _-_, _*_, _/_, _^_, _≤_, _<_}
 use mathlib.Core.Path.{_≡_, refl, _∙_, sym, ap}
 use mathlib.Core.List.{List}
-use mathlib.Core.Logic.{_⊎_, inl, inr, ⊎-elim, _≢_}
+use mathlib.Core.Logic.{inl, inr, ⊎-elim, _≢_}
 use native.Mathlib.Omega.{arith}
 use native.Mathlib.Nat.{suc-mul}
 use lib.ListN.{length, getD, set}
@@ -24,7 +24,7 @@ use Rattle.edits.specs.Roles.{Once, Separate}
 use Rattle.edits.proofs.Listed.{listed-more, listed-once}
 use Rattle.promises.specs.Coded.{placeOf, Entries, Places, Links}
 use Rattle.promises.proofs.Stores.{slot, Clear, SameAt, SlotsSame, FieldsSame, number-same, number-put, sector-fields, sector-slot, sector-slots, field-slots, FreshDifat, fresh-same}
-use Rattle.promises.proofs.Placing.{quotient-below, entry-low, entry-high, entry-at, entries-keep, entries-set, entries-list, places-keep, places-set, places-fats, places-list, links-keep, links-more, place-fats, place-links, place-field, link-other, link-fats, link-places, link-field, place-in}
+use Rattle.promises.proofs.Placing.{quotient-below, entry-low, entry-high, entries-keep, entries-set, entries-list, places-keep, places-set, places-fats, places-list, links-keep, links-more, place-fats, place-links, place-field, link-other, link-fats, link-places, link-field, place-in}
 
 -- a list without repetition, or apart from another, stays so with a number that is new to it
 once-more : (xs : List ℕ) (k id : ℕ) → k < length xs → Once xs k → ((q : ℕ) → q < k → getD xs q 0 ≢ id) → Once (set xs k id) (suc k)

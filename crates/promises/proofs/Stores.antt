@@ -1,10 +1,10 @@
 -- Four bytes of an image after a store: what is read there, and which entries, places and links stand clear of it (MS-CFB 2.2, 2.3, 2.5). Assumes nothing.
-use Prim.Native.Nat.{ℕ, suc, _+_, _-_, _*_, _/_, _%_, _^_, _≤_, _<_}
-use mathlib.Core.Path.{_≡_, refl, _∙_, sym, ap}
+use Prim.Native.Nat.{ℕ, _+_, _-_, _*_, _^_, _≤_, _<_}
+use mathlib.Core.Path.{_≡_, _∙_, sym, ap}
 use mathlib.Core.List.{List, [], _∷_, _++_}
 use mathlib.Core.Logic.{_⊎_, inl, inr, ⊎-elim, _≢_}
 use native.Mathlib.Omega.{arith}
-use native.Mathlib.Nat.{add-mul, one-mul, div-add-mod}
+use native.Mathlib.Nat.{add-mul, one-mul}
 use lib.ListN.{length, getD, replicate, length-append, length-replicate, getD-replicate, List·getD-append}
 use lib.Seq.{getD-append-add}
 use Rattle.lists.specs.Lists.{splice, Below}
@@ -13,11 +13,9 @@ use Rattle.lists.proofs.Splice.{below-append, below-replicate}
 use Rattle.words.specs.Words.{le, digits}
 use Rattle.words.proofs.Laws.{le-ext, le-inside, le-apart, le-put, length-digits}
 use Rattle.consts.specs.Consts.{endOfChain, freeSector}
-use Rattle.header.specs.Write.{listBytes}
 use Rattle.header.proofs.Written.{listed-entry}
 use Rattle.sectors.specs.Sectors.{startOf, perSector}
 use Rattle.sectors.specs.Init.{initBytes}
-use Rattle.sectors.specs.declared.init.SectorInit.{SectorInit}
 use Rattle.sectors.specs.declared.init.SectorInit.the-variants.{Fat, Difat}
 use Rattle.sectors.proofs.New.{length-init}
 use Rattle.chain.proofs.Apart.{sector-before}
