@@ -127,7 +127,6 @@ fat-stands : (S R : ℕ) (d : Disk) → FitsFat S R d → StandsWhole S R d
     → StandsAs S R (suc (d .sectors / perSector S)) (difatCount S (suc (d .sectors / perSector S))) (appendFat S d)
 unfolding appendFat store pushFat listFat
 fat-stands S R d f s =
-    let k : ℕ = d .sectors / perSector S in
     let many : 128 ≤ perSector S = full-many S R d f in
     let whole : S ≡ 4 * perSector S = s .fits .holds .entries in
     let count : d .sectors / perSector S ≡ fatsHeld S d = sym (fat-full S (d .sectors) (omega (arith, many)) (f .full)) in

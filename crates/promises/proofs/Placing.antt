@@ -23,7 +23,7 @@ use Rattle.promises.proofs.Stores.{slot, Clear, SameAt, SlotsSame, numb
 pub quotient-below : (b i k : ℕ) → 1 ≤ b → i < k * b → i / b < k
 quotient-below b i k some h = div-lt-iff-lt-mul {k = b} {x = i} {y = k} some .1 h
 
-pub quotient-is : (b i k : ℕ) → k * b ≤ i → i < suc k * b → i / b ≡ k
+quotient-is : (b i k : ℕ) → k * b ≤ i → i < suc k * b → i / b ≡ k
 quotient-is b i k low high = div-eq-of-lt-le {k = k} b {m = i} low (omega (arith, high, suc-mul k b, add-mul k 1 b, one-mul b))
 
 same-by : (b i x : ℕ) → i / b ≡ x / b → i % b ≡ x % b → i ≡ x
@@ -44,11 +44,11 @@ module _ (S : ℕ) (e : S ≡ 4 * perSector S) (many : 128 ≤ perSector S) wher
   slot-fits x h = omega (arith, e, h)
 
   -- where entry i of the FAT stands, by its sector
-  pub entry-at : (fats : List ℕ) (i a : ℕ) → getD fats (i / perSector S) 0 ≡ a → entryPlace S fats i ≡ slot S a (i % perSector S)
+  entry-at : (fats : List ℕ) (i a : ℕ) → getD fats (i / perSector S) 0 ≡ a → entryPlace S fats i ≡ slot S a (i % perSector S)
   unfolding entryPlace
   entry-at fats i a h = ap (λ (b : ℕ). slot S b (i % perSector S)) h
 
-  pub entry-same : (fats img after : List ℕ) (k i : ℕ) → i < k * perSector S → SlotsSame S fats k img after → SameAt img after (entryPlace S fats i)
+  entry-same : (fats img after : List ℕ) (k i : ℕ) → i < k * perSector S → SlotsSame S fats k img after → SameAt img after (entryPlace S fats i)
   unfolding entryPlace
   entry-same fats img after k i h same = same (i / perSector S) (i % perSector S) (quotient-below (perSector S) i k some h) (mod-lt i some)
 
@@ -132,7 +132,7 @@ module _ (S : ℕ) (e : S ≡ 4 * perSector S) (many : 128 ≤ perSector S) wher
   far-sector j p far h = quotient-below (perSector S - 1) (p - 109) j (omega (arith, many)) (omega (arith, far, h))
 
   -- the header's list reads as it did
-  abbrev pub NearSame : List ℕ → List ℕ → Type 0
+  abbrev NearSame : List ℕ → List ℕ → Type 0
   NearSame img after = (p : ℕ) → p < 109 → SameAt img after (offsetOf entriesAt + 4 * p)
 
   place-same : (difats img after : List ℕ) (j p : ℕ) → p < 109 + j * (perSector S - 1) → NearSame img after
@@ -226,11 +226,11 @@ module _ (S : ℕ) (e : S ≡ 4 * perSector S) (many : 128 ≤ perSector S) wher
           (below-or p 109))
 
   -- where a link stands: in the header, or last in a DIFAT sector
-  pub link-first : (difats : List ℕ) (j : ℕ) → j ≡ 0 → linkPlace S difats j ≡ offsetOf difatAt
+  link-first : (difats : List ℕ) (j : ℕ) → j ≡ 0 → linkPlace S difats j ≡ offsetOf difatAt
   unfolding linkPlace
   link-first difats j h = rw (eq-eqb j 0 h)
 
-  pub link-next : (difats : List ℕ) (j : ℕ) → j ≢ 0 → linkPlace S difats j ≡ slot S (getD difats (j - 1) 0) (perSector S - 1)
+  link-next : (difats : List ℕ) (j : ℕ) → j ≢ 0 → linkPlace S difats j ≡ slot S (getD difats (j - 1) 0) (perSector S - 1)
   unfolding linkPlace
   link-next difats j h = rw (ne-eqb j 0 h)
 
@@ -254,6 +254,7 @@ module _ (S : ℕ) (e : S ≡ 4 * perSector S) (many : 128 ≤ perSector S) wher
         last = rw (link-same difats img after j j (omega arith) first next) (r .last);
       }
 
+  -- the last link stands apart from those before it
   link-clear : (difats : List ℕ) (j i : ℕ) → Once difats j → i < j → Clear (linkPlace S difats j) 4 (linkPlace S difats i)
   link-clear difats j i once h =
       rw (link-next difats j (omega (arith, h)))
@@ -292,7 +293,11 @@ module _ (S : ℕ) (e : S ≡ 4 * perSector S) (many : 128 ≤ perSector S) wher
             ∙ r .each i low
             ∙ sym (set-stays difats j id i low))
             (same-or i j);
-        last = inl (ap (le 4 after) (link-next (set difats j id) (suc j) (omega arith) ∙ own) ∙ number-same img (linkPlace S difats j) id (slot S id (perSector S - 1)) inside (link-other difats j id (perSector S - 1) new (omega (arith, many))) ∙ fresh .ends);
+        last =
+            inl
+            (ap (le 4 after) (link-next (set difats j id) (suc j) (omega arith) ∙ own)
+            ∙ number-same img (linkPlace S difats j) id (slot S id (perSector S - 1)) inside (link-other difats j id (perSector S - 1) new (omega (arith, many)))
+            ∙ fresh .ends);
       }
     where
       after : List ℕ

@@ -1,10 +1,10 @@
--- A disk whose bytes say its tables keeps doing so at every store of the allocator, the counts in its header apart (document 01, "Calls on a chain"; MS-CFB 2.2, 2.3, 2.5). Assumes nothing.
+-- A disk whose bytes say what its tables say, with whatever its header counts meanwhile, is left so by each store of the allocator (document 01, "Calls on a chain"; MS-CFB 2.2, 2.3, 2.5). Assumes nothing.
 use Prim.Native.Nat.{ℕ, suc, _+_, _-_, _*_, _/_, _^_, _≤_, _<_}
 use mathlib.Core.Path.{_≡_, refl, _∙_, sym, ap}
 use mathlib.Core.List.{List}
 use mathlib.Core.Logic.{inl, inr, ⊎-elim, _≢_}
 use native.Mathlib.Omega.{arith}
-use native.Mathlib.Nat.{suc-mul}
+use native.Mathlib.Nat.{suc-mul, mul-le-mul-left}
 use lib.ListN.{length, getD, set}
 use lib.Seq.{getD-set-same, getD-set-other}
 use Rattle.lists.specs.Lists.{splice}
@@ -62,6 +62,7 @@ pub record Stands (S R h g k m j : ℕ) (d : Disk) : Type 0 where
 pub stands-at : {S R h g k m j h' g' k' m' j' : ℕ} {d : Disk} → h' ≡ h → g' ≡ g → k' ≡ k → m' ≡ m → j' ≡ j → Stands S R h g k m j d → Stands S R h' g' k' m' j' d
 stands-at a b c e f s = rw (a, b, c, e, f) s
 
+-- one store more
 module _ {S R h g k m j : ℕ} {d : Disk} (s : Stands S R h g k m j d) where
   whole : S ≡ 4 * perSector S
   whole = s .fits .holds .entries
@@ -229,7 +230,7 @@ module _ {S R h g k m j : ℕ} {d : Disk} (s : Stands S R h g k m j d) where
       fats' = set (d .fats) k (d .sectors)
 
       long : k < length (d .fats)
-      long = omega (arith, even, room, s .fits .fats-long, stands-many, native.Mathlib.Nat.mul-le-mul-left k stands-many)
+      long = omega (arith, even, room, s .fits .fats-long, stands-many, mul-le-mul-left k stands-many)
 
       no-difat : (q : ℕ) → q < j → getD (d .difats) q 0 ≢ d .sectors
       no-difat q hq = omega (arith, s .fits .difats-below q hq)
@@ -354,6 +355,7 @@ module _ {S R h g k m j : ℕ} {d : Disk} (s : Stands S R h g k m j d) where
             (λ q hq. difats q (perSector S - 1) hq (omega (arith, stands-many))) (s .links);
       }
 
+  -- MS-CFB 2.2, Number of FAT Sectors and Number of DIFAT Sectors
   pub fats-counted : (v : ℕ) → v < 2 ^ 32 → Stands S R v g k m j (store d (offsetOf fatsAt) (digits 4 v))
   fats-counted v small =
       let inside : offsetOf fatsAt + 4 ≤ length (d .image) = omega (arith, head, big) in

@@ -1,4 +1,4 @@
--- Four bytes of an image after a store: what is read there, and which entries, places and links stand clear of it (MS-CFB 2.2, 2.3, 2.5). Assumes nothing.
+-- Four bytes of an image after a store: what is read there, and which fields of the header and entries of sectors stand clear of it (MS-CFB 2.1, 2.2, 2.3). Assumes nothing.
 use Prim.Native.Nat.{ℕ, _+_, _-_, _*_, _^_, _≤_, _<_}
 use mathlib.Core.Path.{_≡_, _∙_, sym, ap}
 use mathlib.Core.List.{List, [], _∷_, _++_}
@@ -40,8 +40,8 @@ SlotsSame S xs k img after = (q x : ℕ) → q < k → x < perSector S → SameA
 abbrev pub FieldsSame : List ℕ → List ℕ → Type 0
 FieldsSame img after = (o : ℕ) → o + 4 ≤ 512 → SameAt img after o
 
--- a run stored leaves what stands clear of it
-pub run-same : (img : List ℕ) (o : ℕ) (xs : List ℕ) (w p : ℕ) → length xs ≡ w → o + w ≤ length img → Clear o w p → SameAt img (splice img o xs) p
+-- a run stored leaves what stands clear of it, and so does a number
+run-same : (img : List ℕ) (o : ℕ) (xs : List ℕ) (w p : ℕ) → length xs ≡ w → o + w ≤ length img → Clear o w p → SameAt img (splice img o xs) p
 run-same img o xs w p e h c = le-apart 4 img o xs p (omega (arith, e, h)) (rw e c)
 
 pub number-same : (img : List ℕ) (o v p : ℕ) → o + 4 ≤ length img → Clear o 4 p → SameAt img (splice img o (digits 4 v)) p
@@ -56,15 +56,15 @@ pub bytes-same : (img after : List ℕ) (p : ℕ) → ((x : ℕ) → x < 4 → g
 bytes-same img after p h = le-ext 4 after img p p h
 
 -- every sector stands behind the header
-pub start-past : (S a : ℕ) → S ≤ startOf S a
+start-past : (S a : ℕ) → S ≤ startOf S a
 start-past S a = omega (arith, add-mul a 1 S, one-mul S)
 
 -- a part of a run is as clear
-pub clear-part : (o w o' w' p : ℕ) → o ≤ o' → o' + w' ≤ o + w → Clear o w p → Clear o' w' p
+clear-part : (o w o' w' p : ℕ) → o ≤ o' → o' + w' ≤ o + w → Clear o w p → Clear o' w' p
 clear-part o w o' w' p low high c = ⊎-elim (λ (l : p + 4 ≤ o). inl (omega (arith, l, low))) (λ (g : o + w ≤ p). inr (omega (arith, g, high))) c
 
 -- an entry stands clear of every other sector,
-pub slot-other : (S a b y : ℕ) → 4 * y + 4 ≤ S → b ≢ a → Clear (startOf S a) S (slot S b y)
+slot-other : (S a b y : ℕ) → 4 * y + 4 ≤ S → b ≢ a → Clear (startOf S a) S (slot S b y)
 slot-other S a b y h n =
     ⊎-elim
     (λ (l : a < b). inr (omega (arith, sector-before S a b l)))
@@ -89,7 +89,7 @@ slot-field S o b y big h = inr (omega (arith, start-past S b, big, h))
 pub field-slot : (S o a x : ℕ) → 512 ≤ S → o + 4 ≤ 512 → Clear (slot S a x) 4 o
 field-slot S o a x big h = inl (omega (arith, start-past S a, big, h))
 
--- a run stored within sector a
+-- a run stored within sector a leaves the header and the other sectors
 module _ (S a o w : ℕ) (img xs : List ℕ) (long : length xs ≡ w) (low : startOf S a ≤ o) (high : o + w ≤ startOf S a + S) (inside : startOf S a + S ≤ length img) where
   pub sector-fields : 512 ≤ S → FieldsSame img (splice img o xs)
   sector-fields big p h = run-same img o xs w p long (omega (arith, high, inside)) (inl (omega (arith, start-past S a, big, h, low)))
@@ -101,7 +101,7 @@ module _ (S a o w : ℕ) (img xs : List ℕ) (long : length xs ≡ w) (low : sta
   pub sector-slots : (ys : List ℕ) (k : ℕ) → S ≡ 4 * perSector S → ((q : ℕ) → q < k → getD ys q 0 ≢ a) → SlotsSame S ys k img (splice img o xs)
   sector-slots ys k e n q y hq hy = sector-slot (getD ys q 0) y (omega (arith, e, hy)) (n q hq)
 
--- a number stored in the header
+-- a number stored in the header leaves the sectors
 pub field-slots : (S o v k : ℕ) (img xs : List ℕ) → 512 ≤ S → o + 4 ≤ 512 → o + 4 ≤ length img → SlotsSame S xs k img (splice img o (digits 4 v))
 field-slots S o v k img xs big h l q x hq hx = number-same img o v (slot S (getD xs q 0) x) l (slot-field S o (getD xs q 0) x big h)
 
@@ -121,10 +121,12 @@ pub record FreshDifat (S a : ℕ) (img : List ℕ) : Type 0 where
   pub frees : (x : ℕ) → x < perSector S - 1 → le 4 img (slot S a x) ≡ freeSector
   pub ends : le 4 img (slot S a (perSector S - 1)) ≡ endOfChain
 
+-- as long as its entries read the same
 pub fresh-same : (S a : ℕ) (img after : List ℕ) → 1 ≤ perSector S → ((x : ℕ) → x < perSector S → SameAt img after (slot S a x)) → FreshDifat S a img → FreshDifat S a after
 fresh-same S a img after some same f =
     record { frees = λ x h. same x (omega (arith, h)) ∙ f .frees x h; ends = same (perSector S - 1) (omega (arith, some)) ∙ f .ends }
 
+-- as it is stored
 pub fresh-difat : (S a : ℕ) (img : List ℕ) → S ≡ 4 * perSector S → 1 ≤ perSector S → startOf S a + S ≤ length img
     → FreshDifat S a (splice img (startOf S a) (initBytes S Difat))
 unfolding initBytes
