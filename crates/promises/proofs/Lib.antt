@@ -1,12 +1,16 @@
 pub mod After
 pub mod Base
 pub mod Calls
+pub mod Coding
 pub mod Encoding
 pub mod Entries
 pub mod Forming
 pub mod Graph
 pub mod Growing
 pub mod Parts
+pub mod Placing
 pub mod Reopening
 pub mod Shrinking
+pub mod Standing
+pub mod Stores
 pub mod Walks
