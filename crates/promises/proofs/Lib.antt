@@ -6,4 +6,5 @@ pub mod Graph
 pub mod Growing
 pub mod Parts
 pub mod Shrinking
+pub mod Tailing
 pub mod Walks
