@@ -1,5 +1,6 @@
 pub mod Base
 pub mod Calls
+pub mod Cases
 pub mod Entries
 pub mod Forming
 pub mod Graph
