@@ -48,7 +48,7 @@ module _ (s : State) (img : List ℕ) (t : Tables) (room start : ℕ) where
 
   -- an accepted resize
   module _ (len : ℕ) (z : resizeNo s img t room start len ≡ 0) where
-    resize-rows : (changeNo s img t room start ≡ 0) × (refusal (row 24 (noRoom s (length img) (resizeMore (stateLen s) (length (chainIds s t start)) len)) ∷ []) ≡ 0)
+    pub resize-rows : (changeNo s img t room start ≡ 0) × (refusal (row 24 (noRoom s (length img) (resizeMore (stateLen s) (length (chainIds s t start)) len)) ∷ []) ≡ 0)
     unfolding resizeNo resizeRows changeNo changeRows agreedRows walkRows distinct fresh
     resize-rows = append-accepts (changeRows s img t room start) _ refl .0 z
 
@@ -98,7 +98,7 @@ module _ (s : State) (img : List ℕ) (t : Tables) (room start : ℕ) where
     abbrev lastRows : List Row
     lastRows = row 23 (ltb (stateLen s * length (chainIds s t start)) offset) ∷ row 24 (noRoom s (length img) more) ∷ []
 
-    write-rows : (changeNo s img t room start ≡ 0) × (refusal lastRows ≡ 0)
+    pub write-rows : (changeNo s img t room start ≡ 0) × (refusal lastRows ≡ 0)
     unfolding writeNo writeRows changeNo changeRows agreedRows walkRows distinct fresh
     write-rows = append-accepts (changeRows s img t room start) lastRows refl .0 z
 

@@ -5,6 +5,7 @@ pub mod Entries
 pub mod Forming
 pub mod Graph
 pub mod Growing
+pub mod Others
 pub mod Parts
 pub mod Shrinking
 pub mod Tailing
