@@ -1,11 +1,11 @@
--- The lent tables in hand hold zeros past their counts (document 01, 19). Assumes nothing.
+-- What the lent tables hold past their counts (document 01, "Opening an image"). Assumes nothing.
 use Prim.Native.Nat.{ℕ, _≤_}
 use mathlib.Core.Path.{_≡_}
 use lib.ListN.{getD}
 use Rattle.moves.specs.Hand.{Hand}
 use Rattle.edits.specs.Roles.{fatsHeld, difatsHeld}
 
--- document 01, 19: each table is zero past the sectors, the FAT's and the DIFAT's of them, and the FREE ones listed
+-- document 01: past its count each table holds zero
 pub record Tailed (S : ℕ) (h : Hand) : Type 0 where
   pub fat : (i : ℕ) → h .disk .sectors ≤ i → getD (h .disk .fat) i 0 ≡ 0
   pub fats : (i : ℕ) → fatsHeld S (h .disk) ≤ i → getD (h .disk .fats) i 0 ≡ 0
