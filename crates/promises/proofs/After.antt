@@ -63,7 +63,8 @@ module _ (s : State) (img : List ℕ) (t : Tables) (room start : ℕ) where
       after-headed : Headed img (c .hand .disk .image)
       after-headed = headed img (c .hand .disk .image) after-alike (before-headed s img t room start z) (coded-list (stateLen s) R (c .hand .disk) (f .fits .disk) coded)
 
-      after-len : lengthOf (headerOf (c .hand .disk .image) .version) ≡ stateLen s
+      -- document 01, S: a sector is as long as before
+      pub after-len : lengthOf (headerOf (c .hand .disk .image) .version) ≡ stateLen s
       after-len =
           ap lengthOf (after-headed .version) ∙ ap (λ (h : Header). lengthOf (h .version)) (sym (agrees s img t room start z .header))
 

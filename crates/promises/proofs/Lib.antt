@@ -8,6 +8,7 @@ pub mod Entries
 pub mod Forming
 pub mod Graph
 pub mod Growing
+pub mod Kept
 pub mod Others
 pub mod Parts
 pub mod Placing

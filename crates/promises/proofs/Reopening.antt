@@ -150,7 +150,7 @@ once-few n fat xs ys f g =
     picked i l (inr h) = absurd (omega (arith, l, h))
 
 -- document 01: the ascending free list is one
-ascending-once : (n : ℕ) (fat : List ℕ) → FreesOnce n fat (freesOf n fat)
+pub ascending-once : (n : ℕ) (fat : List ℕ) → FreesOnce n fat (freesOf n fat)
 ascending-once n fat = record {
   below = λ j l. frees-exactly n fat (getD (freesOf n fat) j 0) .0 (j, l, refl) .0;
   free = λ j l. frees-exactly n fat (getD (freesOf n fat) j 0) .0 (j, l, refl) .1;
