@@ -246,6 +246,7 @@ aloneCase =
     ∷ row 907 (eqb (le 4 (writtenAlone 2 .hand .disk .image) 44) 1)
     ∷ row 908 (eqb (le 4 (writtenAlone 2 .hand .disk .image) 76) 0)
     ∷ row 909 (both (eqb (headerOf (writtenAlone 2 .hand .disk .image) .fats) 1) (sameList (headerOf (writtenAlone 2 .hand .disk .image) .list) (0 ∷ replicate 108 freeSector)))
+    ∷ row 910 (both (eqb (le 4 (writtenAlone 2 .hand .disk .image) (startOf 512 0)) fatSector) (eqb (openNo Strict (writtenAlone 2 .hand .disk .image) 1536 (shortest (lent 2))) 0))
     ∷ row 911 (eqb (openNo Strict (imageAlone 1) 512 (shortest (lent 1))) 0)
     ∷ row 912 (eqb (roomOf (stateLen (stateAlone 1)) (length (imageAlone 1))) 1)
     ∷ row 913 (eqb (writeNo (stateAlone 1) (imageAlone 1) (tablesAlone 1) 1 endOfChain 0 1) 24)
