@@ -28,9 +28,11 @@ use Rattle.cfb.proofs.Ready.{agrees, strict-mode}
 use Rattle.promises.specs.Coded.{Coded}
 use Rattle.promises.specs.Tails.{Tailed}
 use Rattle.promises.specs.Whole.{Formed}
-use Rattle.promises.proofs.Calls.{resize-rows, resize-fits, resize-leaves, resize-forms, write-rows, write-fits, write-leaves, write-forms}
+use Rattle.promises.proofs.Calls.{resize-rows, resize-roles, resize-fits, resize-leaves, resize-forms, write-rows, write-roles, write-fits, write-leaves, write-forms}
+use Rattle.promises.proofs.Coding.{coded-resized, coded-written}
 use Rattle.promises.proofs.Encoding.{coded-list}
-use Rattle.promises.proofs.Reopening.{Alike, Headed, headed, before-headed, reopens-at}
+use Rattle.promises.proofs.Reopening.{Alike, Headed, headed, before-headed, before-coded, before-tailed, reopens-at}
+use Rattle.promises.proofs.Tailing.{tailed-resized, tailed-written}
 
 -- document 01, 19: state and tables of a chain in hand agree with its image
 abbrev pub AgreesAfter : State → Chain → Type 0
@@ -42,6 +44,15 @@ pub agreed-after : (s : State) (c : Chain) → stateFrom s c .mode ≡ Strict �
 agreed-after s c e a =
     subst (λ (m : Validation). Agrees m (c .hand .disk .image) (stateFrom s c .used) (stateFrom s c .sectors) (stateFrom s c .free) (stateFrom s c .header) (tablesIn c)) (sym e) a
 
+-- what is known of a chain in hand that a change of a chain in image img leaves
+record Known (s : State) (img : List ℕ) (c : Chain) : Type 0 where
+  fits : FitsChain (stateLen s) (roomOf (stateLen s) (length img)) c
+  long : length (c .hand .disk .image) ≡ length img
+  leaves : (b : ℕ) → Untouched (stateLen s) c b → getD (c .hand .disk .image) b 0 ≡ getD img b 0
+  formed : Formed (stateLen s) (c .hand)
+  coded : Coded (stateLen s) (c .hand .disk)
+  tailed : Tailed (stateLen s) (c .hand)
+
 module _ (s : State) (img : List ℕ) (t : Tables) (room start : ℕ) where
   abbrev before : Chain
   before = chainFrom s img t room start
@@ -49,30 +60,26 @@ module _ (s : State) (img : List ℕ) (t : Tables) (room start : ℕ) where
   abbrev R : ℕ
   R = roomOf (stateLen s) (length img)
 
-  -- a chain in hand that a change leaves, by what is known of it
-  module _ (z : changeNo s img t room start ≡ 0) (c : Chain) (f : FitsChain (stateLen s) R c) (long : length (c .hand .disk .image) ≡ length img)
-      (leaves : (b : ℕ) → Untouched (stateLen s) c b → getD (c .hand .disk .image) b 0 ≡ getD img b 0) (w : Formed (stateLen s) (c .hand)) where
+  module _ (z : changeNo s img t room start ≡ 0) (c : Chain) (k : Known s img c) where
     -- MS-CFB 2.2: the header's other fields stay
     after-alike : Alike img (c .hand .disk .image)
     after-alike = record {
-      long = long;
-      bytes = λ b apart l. leaves b (header-untouched (stateLen s) R c f b (omega (arith, l, f .fits .disk .header)) apart (inl l));
+      long = k .long;
+      bytes = λ b apart l. k .leaves b (header-untouched (stateLen s) R c (k .fits) b (omega (arith, l, k .fits .fits .disk .header)) apart (inl l));
     }
 
-    module _ (coded : Coded (stateLen s) (c .hand .disk)) (tailed : Tailed (stateLen s) (c .hand)) where
-      after-headed : Headed img (c .hand .disk .image)
-      after-headed = headed img (c .hand .disk .image) after-alike (before-headed s img t room start z) (coded-list (stateLen s) R (c .hand .disk) (f .fits .disk) coded)
+    after-headed : Headed img (c .hand .disk .image)
+    after-headed = headed img (c .hand .disk .image) after-alike (before-headed s img t room start z) (coded-list (stateLen s) R (c .hand .disk) (k .fits .fits .disk) (k .coded))
 
-      -- document 01, S: a sector is as long as before
-      pub after-len : lengthOf (headerOf (c .hand .disk .image) .version) ≡ stateLen s
-      after-len =
-          ap lengthOf (after-headed .version) ∙ ap (λ (h : Header). lengthOf (h .version)) (sym (agrees s img t room start z .header))
+    -- document 01, S: a sector is as long as before
+    after-len : lengthOf (headerOf (c .hand .disk .image) .version) ≡ stateLen s
+    after-len = ap lengthOf (after-headed .version) ∙ ap (λ (h : Header). lengthOf (h .version)) (sym (agrees s img t room start z .header))
 
-      -- document 01, 19: the state, the image and the tables that the change leaves agree
-      pub after-agrees : AgreesAfter s c
-      unfolding stateFrom tablesIn
-      after-agrees =
-          reopens-at (c .hand) (stateLen s) R after-len (f .fits) (omega (arith, ap (roomOf (stateLen s)) long)) w coded tailed (after-headed .rows)
+    -- document 01, 19: the state, the image and the tables that the change leaves agree
+    after-agrees : AgreesAfter s c
+    unfolding stateFrom tablesIn
+    after-agrees =
+        reopens-at (c .hand) (stateLen s) R after-len (k .fits .fits) (omega (arith, ap (roomOf (stateLen s)) (k .long))) (k .formed) (k .coded) (k .tailed) (after-headed .rows)
 
   -- document 01: the state that a change leaves is strict
   pub after-strict : changeNo s img t room start ≡ 0 → (c : Chain) → stateFrom s c .mode ≡ Strict
@@ -84,13 +91,29 @@ module _ (s : State) (img : List ℕ) (t : Tables) (room start : ℕ) where
     abbrev resizedChain : Chain
     resizedChain = resized (stateLen s) before len
 
-    -- document 01, 19: the state, the image and the tables that it leaves agree
-    pub resize-agrees : Coded (stateLen s) (resizedChain .hand .disk) → Tailed (stateLen s) (resizedChain .hand) → AgreesAfter s resizedChain
+    -- what is known of it
+    resize-known : Known s img resizedChain
     unfolding chainFrom
-    resize-agrees coded tailed =
-        after-agrees (resize-rows s img t room start len z .0) resizedChain (resized-fits (stateLen s) R len before (resize-fits s img t room start len z))
-        (resized-long (stateLen s) R len before (resize-fits s img t room start len z) .hand .disk .image-same)
-        (resize-leaves s img t room start len z) (resize-forms s img t room start len z) coded tailed
+    resize-known =
+        let f = resize-fits s img t room start len z in
+        let r = resize-roles s img t room start len z in
+        let a = resize-rows s img t room start len z .0 in
+        record {
+          fits = resized-fits (stateLen s) R len before f;
+          long = resized-long (stateLen s) R len before f .hand .disk .image-same;
+          leaves = resize-leaves s img t room start len z;
+          formed = resize-forms s img t room start len z;
+          coded = coded-resized (stateLen s) R len before f r (before-coded s img t room start a);
+          tailed = tailed-resized (stateLen s) R len before f r (before-tailed s img t room start a);
+        }
+
+    -- document 01, 19: the state, the image and the tables that it leaves agree
+    pub resize-agrees : AgreesAfter s resizedChain
+    resize-agrees = after-agrees (resize-rows s img t room start len z .0) resizedChain resize-known
+
+    -- document 01, S: a sector is as long as before
+    pub resize-len : lengthOf (headerOf (resizedChain .hand .disk .image) .version) ≡ stateLen s
+    resize-len = after-len (resize-rows s img t room start len z .0) resizedChain resize-known
 
     -- and the state is strict
     pub resize-strict : stateFrom s resizedChain .mode ≡ Strict
@@ -101,13 +124,29 @@ module _ (s : State) (img : List ℕ) (t : Tables) (room start : ℕ) where
     abbrev writtenChain : Chain
     writtenChain = written (stateLen s) before offset buf
 
-    -- document 01, 19: the state, the image and the tables that it leaves agree
-    pub write-agrees : Coded (stateLen s) (writtenChain .hand .disk) → Tailed (stateLen s) (writtenChain .hand) → AgreesAfter s writtenChain
+    -- what is known of it
+    write-known : Known s img writtenChain
     unfolding chainFrom
-    write-agrees coded tailed =
-        after-agrees (write-rows s img t room start offset buf z .0) writtenChain (written-fits (stateLen s) R offset buf before (write-fits s img t room start offset buf z))
-        (written-long (stateLen s) R offset buf before (write-fits s img t room start offset buf z) .hand .disk .image-same)
-        (write-leaves s img t room start offset buf z) (write-forms s img t room start offset buf z) coded tailed
+    write-known =
+        let f = write-fits s img t room start offset buf z in
+        let r = write-roles s img t room start offset buf z in
+        let a = write-rows s img t room start offset buf z .0 in
+        record {
+          fits = written-fits (stateLen s) R offset buf before f;
+          long = written-long (stateLen s) R offset buf before f .hand .disk .image-same;
+          leaves = write-leaves s img t room start offset buf z;
+          formed = write-forms s img t room start offset buf z;
+          coded = coded-written (stateLen s) R offset buf before f r (before-coded s img t room start a);
+          tailed = tailed-written (stateLen s) R offset buf before f r (before-tailed s img t room start a);
+        }
+
+    -- document 01, 19: the state, the image and the tables that it leaves agree
+    pub write-agrees : AgreesAfter s writtenChain
+    write-agrees = after-agrees (write-rows s img t room start offset buf z .0) writtenChain write-known
+
+    -- document 01, S: a sector is as long as before
+    pub write-len : lengthOf (headerOf (writtenChain .hand .disk .image) .version) ≡ stateLen s
+    write-len = after-len (write-rows s img t room start offset buf z .0) writtenChain write-known
 
     -- and the state is strict
     pub write-strict : stateFrom s writtenChain .mode ≡ Strict

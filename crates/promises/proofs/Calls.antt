@@ -52,7 +52,7 @@ module _ (s : State) (img : List ℕ) (t : Tables) (room start : ℕ) where
     unfolding resizeNo resizeRows changeNo changeRows agreedRows walkRows distinct fresh
     resize-rows = append-accepts (changeRows s img t room start) _ refl .0 z
 
-    resize-roles : Roles (stateLen s) (roomOf (stateLen s) (length img)) before
+    pub resize-roles : Roles (stateLen s) (roomOf (stateLen s) (length img)) before
     resize-roles = roles-of s img t room start (resize-rows .0)
 
     pub resize-fits : FitsResize (stateLen s) (roomOf (stateLen s) (length img)) len before
@@ -102,7 +102,7 @@ module _ (s : State) (img : List ℕ) (t : Tables) (room start : ℕ) where
     unfolding writeNo writeRows changeNo changeRows agreedRows walkRows distinct fresh
     write-rows = append-accepts (changeRows s img t room start) lastRows refl .0 z
 
-    write-roles : Roles (stateLen s) (roomOf (stateLen s) (length img)) before
+    pub write-roles : Roles (stateLen s) (roomOf (stateLen s) (length img)) before
     write-roles = roles-of s img t room start (write-rows .0)
 
     pub write-fits : FitsWrite (stateLen s) (roomOf (stateLen s) (length img)) offset (length buf) before

@@ -24,7 +24,7 @@ use Rattle.agree.proofs.Meaning.{agrees-exactly, opened-agrees}
 use Rattle.cfb.specs.Face.{sectorsOf, tablesOf, stateOf}
 use Rattle.cfb.specs.declared.State.{State}
 use Rattle.promises.specs.Demand.{InHand, Fresh, opened}
-use Rattle.promises.proofs.Reopening.{ascending-once}
+use Rattle.promises.proofs.Reopening.{ascending-once, once-counts}
 
 -- what is in hand is strict, and agrees with its image (document 01, 19)
 pub record Sure (h : InHand) : Type 0 where
@@ -60,3 +60,24 @@ once-permuted n fat xs ys e f g = record {
       (λ (u : n ≤ x). once-never n fat xs f x u ∙ sym (once-never n fat ys g x u))
       (below-or x n);
 }
+
+-- a state is its numbers
+state-same : (s : State) (m : Validation) (used sectors free : ℕ) (header : Header) → s .mode ≡ m → s .used ≡ used → s .sectors ≡ sectors → s .free ≡ free → s .header ≡ header
+    → (record { mode = m; used = used; sectors = sectors; free = free; header = header }) ≡ s
+state-same s m used sectors free header a b c d e = rw (← a, ← b, ← c, ← d, ← e)
+
+-- document 01, 19: what agrees is what a fresh strict opening gives, the free list in some order
+pub sure-fresh : (h : InHand) → Sure h → Fresh h
+unfolding opened stateOf tablesOf sectorsOf tablesLeft leftIn openTables padded
+sure-fresh h s =
+    let a = s .agrees in
+    record {
+      opens = a .opens;
+      state = state-same (h .state) _ _ _ _ _ (s .strict) refl (a .count) (a .tables .count) (a .header);
+      fat = sym (a .tables .fat);
+      fats = sym (a .tables .fats);
+      difats = sym (a .tables .difats);
+      marks = sym (a .tables .marks);
+      frees = once-permuted _ _ _ _ (sym (once-counts _ _ _ (a .tables .frees))) (ascending-once _ _) (a .tables .frees);
+      frees-rest = a .tables .rest;
+    }

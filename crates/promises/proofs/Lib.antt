@@ -3,8 +3,10 @@ pub mod Base
 pub mod Calls
 pub mod Cases
 pub mod Coding
+pub mod Demand
 pub mod Encoding
 pub mod Entries
+pub mod Following
 pub mod Forming
 pub mod Graph
 pub mod Growing

@@ -162,7 +162,7 @@ ascending-once n fat = record {
   all = λ i l e. frees-exactly n fat i .1 (l, e);
 }
 
-once-counts : (n : ℕ) (fat xs : List ℕ) → FreesOnce n fat xs → length xs ≡ length (freesOf n fat)
+pub once-counts : (n : ℕ) (fat xs : List ℕ) → FreesOnce n fat xs → length xs ≡ length (freesOf n fat)
 once-counts n fat xs f = omega (arith, once-few n fat xs (freesOf n fat) f (ascending-once n fat), once-few n fat (freesOf n fat) xs (ascending-once n fat) f)
 
 once-own : (n : ℕ) (fat fat' xs : List ℕ) → fat ≡ fat' → FreesOnce n fat xs → FreesOnce n fat' xs

@@ -1,0 +1,200 @@
+-- The third demand: after any list of edits, what is in hand is what the bytes say, and each call did its edit and nothing else. Assumes nothing.
+use Prim.Native.Nat.{ℕ, zero, suc, _*_, _≤_, _<_}
+use mathlib.Core.Path.{_≡_, refl, sym, _∙_, ap}
+use mathlib.Core.Bool.{true, false}
+use mathlib.Core.List.{List, [], _∷_, _++_, append-nil, flatMap}
+use mathlib.Core.Logic.{⊎-elim, _≢_}
+use native.Mathlib.Omega.{arith}
+use borrow.Author.Tests.{eq-eqb, ne-eqb}
+use lib.Dec.{eqb}
+use lib.ListN.{length, getD, take}
+use Rattle.lists.specs.Lists.{choose}
+use Rattle.lists.proofs.Cases.{true-or, same-or}
+use Rattle.header.specs.Fields.{lengthOf}
+use Rattle.header.specs.Read.{headerOf}
+use Rattle.header.specs.declared.Validation.the-variants.{Strict}
+use Rattle.header.specs.declared.Version.{Version}
+use Rattle.header.specs.declared.Version.the-variants.{V3, V4}
+use Rattle.fat.specs.Lists.{ceil}
+use Rattle.sectors.specs.Sectors.{sectorOf}
+use Rattle.alloc.specs.Opening.{Tables, openNo, shortest}
+use Rattle.alloc.specs.Opened.{padded}
+use Rattle.chain.specs.Bytes.{chainBytes}
+use Rattle.chain.specs.Walk.{lists, walkOf}
+use Rattle.moves.specs.Hand.{Chain}
+use Rattle.moves.specs.Change.{idsOf}
+use Rattle.edits.specs.Untouched.{Other, Others}
+use Rattle.cfb.specs.Calls.{stateLen, walked, chainIds, outcomeIds}
+use Rattle.cfb.specs.Changes.{chainFrom, stateFrom, tablesIn, startIn, Changes, ChainWrites, ChainResizes}
+use Rattle.cfb.specs.declared.State.{State}
+use Rattle.cfb.specs.declared.Called.{Called}
+use Rattle.cfb.proofs.Refusing.{padded-front}
+use Rattle.promises.specs.Demand.{InHand, Edit, write, resize, free, named, editNo, chainNamed, chainAfter, handOf, after, Call, afterAll, opened, idsFrom, bytesFrom, startAfter, edited, Elsewhere, Another, Promised}
+use Rattle.promises.specs.Whole.{fatHeld}
+use Rattle.promises.proofs.After.{AgreesAfter, resize-agrees, resize-strict, resize-len, write-agrees, write-strict, write-len}
+use Rattle.promises.proofs.Calls.{Walks, resize-walks, resize-edits, resize-keeps, write-walks, write-edits, write-keeps}
+use Rattle.promises.proofs.Others.{Absent, resize-others-walk, write-others-walk}
+use Rattle.promises.proofs.Kept.{Sure, sure-fresh, opened-sure}
+
+-- what is known of an accepted call that leaves the chain c in hand, whose bytes were to become xs
+pub record Done (h : InHand) (room : ℕ) (e : Edit) (c : Chain) (xs : List ℕ) : Type 0 where
+  pub strict : stateFrom (h .state) c .mode ≡ Strict
+  pub agrees : AgreesAfter (h .state) c
+  pub len : lengthOf (headerOf (c .hand .disk .image) .version) ≡ stateLen (h .state)
+  pub walks : Walks c
+  pub bytes : chainBytes (stateLen (h .state)) (c .hand .disk .image) (idsOf c) ≡ xs
+  pub keeps : (others : List ℕ) → Others (stateLen (h .state)) (chainNamed h room e) others
+      → chainBytes (stateLen (h .state)) (c .hand .disk .image) others ≡ chainBytes (stateLen (h .state)) (h .image) others
+  pub others : (x : ℕ) (ids : List ℕ) → Absent (idsFrom h (named e)) x → walkOf (take (h .state .sectors) (h .tables .fat)) x ≡ lists ids
+      → walkOf (fatHeld (c .hand .disk)) x ≡ lists ids
+
+-- bytes of a chain by equal parts, and those of one sector
+bytes-own : (S S' : ℕ) (img img' ids ids' : List ℕ) → S ≡ S' → img ≡ img' → ids ≡ ids' → chainBytes S img ids ≡ chainBytes S' img' ids'
+bytes-own S S' img img' ids ids' a b c = rw (a, b, c)
+
+bytes-one : (S : ℕ) (img : List ℕ) (i : ℕ) → chainBytes S img (i ∷ []) ≡ sectorOf S img i
+unfolding chainBytes flatMap
+bytes-one S img i = append-nil (sectorOf S img i)
+
+one-each : (P : ℕ → Type 0) (i : ℕ) → P i → (j : ℕ) → j < length (i ∷ []) → P (getD (i ∷ []) j 0)
+one-each P i p zero l = p
+one-each P i p (suc j) l = absurd (omega (arith, l))
+
+module _ (h : InHand) (room : ℕ) (e : Edit) (c : Chain) (xs : List ℕ) (d : Done h room e c xs) where
+  done-sure : Sure (handOf (h .state) c)
+  unfolding handOf
+  done-sure = record { strict = d .strict; agrees = d .agrees }
+
+  -- the walk in hand after the call is that of the FAT that it leaves
+  done-walked : (x : ℕ) → walked (handOf (h .state) c .state) (handOf (h .state) c .tables) x ≡ walkOf (fatHeld (c .hand .disk)) x
+  unfolding handOf stateFrom tablesIn walked
+  done-walked x = refl
+
+  done-len : stateLen (handOf (h .state) c .state) ≡ stateLen (h .state)
+  unfolding handOf stateFrom
+  done-len = d .len
+
+  done-ids : idsFrom (handOf (h .state) c) (startIn (c .ids) (c .count)) ≡ idsOf c
+  unfolding chainIds outcomeIds
+  done-ids = ap outcomeIds (done-walked (startIn (c .ids) (c .count)) ∙ d .walks)
+
+  done-image : handOf (h .state) c .image ≡ c .hand .disk .image
+  unfolding handOf
+  done-image = refl
+
+  done-bytes : bytesFrom (handOf (h .state) c) (startIn (c .ids) (c .count)) ≡ xs
+  done-bytes = bytes-own _ _ _ _ _ _ done-len done-image done-ids ∙ d .bytes
+
+  done-others : (x : ℕ) (ids : List ℕ) → Another h e x ids → walked (handOf (h .state) c .state) (handOf (h .state) c .tables) x ≡ lists ids
+  unfolding walked
+  done-others x ids a = done-walked x ∙ d .others x ids (a .apart) (a .walks)
+
+  other-one : (i : ℕ) → Elsewhere h room e i → Other (stateLen (h .state)) (chainNamed h room e) i
+  unfolding chainFrom
+  other-one i w = record {
+    inside = w .inside;
+    no-fat = w .not-fat;
+    no-difat = w .not-difat;
+    no-id = λ p l q. w .not-named p l (sym (padded-front (idsFrom h (named e)) room p l) ∙ q);
+    no-free = w .not-free;
+  }
+
+  done-elsewhere : (i : ℕ) → Elsewhere h room e i → sectorOf (stateLen (h .state)) (handOf (h .state) c .image) i ≡ sectorOf (stateLen (h .state)) (h .image) i
+  done-elsewhere i w =
+      ap (λ (img : List ℕ). sectorOf (stateLen (h .state)) img i) done-image
+      ∙ sym (bytes-one (stateLen (h .state)) (c .hand .disk .image) i)
+      ∙ d .keeps (i ∷ []) (record { each = one-each (Other (stateLen (h .state)) (chainNamed h room e)) i (other-one i w) })
+      ∙ bytes-one (stateLen (h .state)) (h .image) i
+
+-- the three edits, accepted
+write-done : (h : InHand) (room start offset : ℕ) (buf : List ℕ) → editNo h room (write start offset buf) ≡ 0
+    → Done h room (write start offset buf) (chainAfter h room (write start offset buf)) (edited (stateLen (h .state)) (write start offset buf) (bytesFrom h start) (length (idsFrom h start)))
+write-done h room start offset buf z =
+    record {
+      strict = write-strict (h .state) (h .image) (h .tables) room start offset buf z;
+      agrees = write-agrees (h .state) (h .image) (h .tables) room start offset buf z;
+      len = write-len (h .state) (h .image) (h .tables) room start offset buf z;
+      walks = write-walks (h .state) (h .image) (h .tables) room start offset buf z;
+      bytes = write-edits (h .state) (h .image) (h .tables) room start offset buf z;
+      keeps = write-keeps (h .state) (h .image) (h .tables) room start offset buf z;
+      others = write-others-walk (h .state) (h .image) (h .tables) room start offset buf z;
+    }
+
+resize-done : (h : InHand) (room start len : ℕ) → editNo h room (resize start len) ≡ 0
+    → Done h room (resize start len) (chainAfter h room (resize start len)) (edited (stateLen (h .state)) (resize start len) (bytesFrom h start) (length (idsFrom h start)))
+resize-done h room start len z =
+    record {
+      strict = resize-strict (h .state) (h .image) (h .tables) room start len z;
+      agrees = resize-agrees (h .state) (h .image) (h .tables) room start len z;
+      len = resize-len (h .state) (h .image) (h .tables) room start len z;
+      walks = resize-walks (h .state) (h .image) (h .tables) room start len z;
+      bytes = resize-edits (h .state) (h .image) (h .tables) room start len z;
+      keeps = resize-keeps (h .state) (h .image) (h .tables) room start len z;
+      others = resize-others-walk (h .state) (h .image) (h .tables) room start len z;
+    }
+
+-- a free is a resize to no byte
+no-byte : (v : Version) → padded [] (lengthOf v * ceil 0 (lengthOf v)) ≡ []
+unfolding padded ceil
+no-byte V3 = refl
+no-byte V4 = refl
+
+free-done : (h : InHand) (room start : ℕ) → editNo h room (free start) ≡ 0
+    → Done h room (free start) (chainAfter h room (free start)) (edited (stateLen (h .state)) (free start) (bytesFrom h start) (length (idsFrom h start)))
+free-done h room start z =
+    let d = resize-done h room start 0 z in
+    record { strict = d .strict; agrees = d .agrees; len = d .len; walks = d .walks; bytes = d .bytes ∙ no-byte (h .state .header .version); keeps = d .keeps; others = d .others }
+
+-- an accepted edit
+edit-done : (h : InHand) (room : ℕ) (e : Edit) → editNo h room e ≡ 0
+    → Done h room e (chainAfter h room e) (edited (stateLen (h .state)) e (bytesFrom h (named e)) (length (idsFrom h (named e))))
+edit-done h room (write start offset buf) z = write-done h room start offset buf z
+edit-done h room (resize start len) z = resize-done h room start len z
+edit-done h room (free start) z = free-done h room start z
+
+-- a call is accepted, or it leaves what is in hand
+after-accepted : (h : InHand) (room : ℕ) (e : Edit) → editNo h room e ≡ 0 → after h room e ≡ handOf (h .state) (chainAfter h room e)
+unfolding after
+after-accepted h room e z = rw (eq-eqb _ _ z)
+
+after-refused : (h : InHand) (room : ℕ) (e : Edit) → editNo h room e ≢ 0 → after h room e ≡ h
+unfolding after
+after-refused h room e z = rw (ne-eqb _ _ z)
+
+-- what agreed agrees after a call
+after-sure : (h : InHand) (room : ℕ) (e : Edit) → Sure h → Sure (after h room e)
+after-sure h room e s =
+    ⊎-elim
+    (λ (z : editNo h room e ≡ 0). rw (after-accepted h room e z) (done-sure h room e _ _ (edit-done h room e z)))
+    (λ (d : editNo h room e ≢ 0). rw (after-refused h room e d) s)
+    (same-or (editNo h room e) 0)
+
+-- and after any list of them
+all-sure : (cs : List Call) (h : InHand) → Sure h → Sure (afterAll h cs)
+unfolding afterAll
+all-sure [] h s = s
+all-sure (c ∷ cs) h s = all-sure cs (after h (c .room) (c .edit)) (after-sure h (c .room) (c .edit) s)
+
+-- the clauses about one call, of what agrees
+call-promised : (h : InHand) (room : ℕ) (e : Edit) → Sure h → Promised h room e (after h room e)
+call-promised h room e s =
+    record {
+      fresh = sure-fresh (after h room e) (after-sure h room e s);
+      exactly = λ z. rw (after-accepted h room e z) (done-bytes h room e _ _ (edit-done h room e z));
+      refused = after-refused h room e;
+      elsewhere = λ i w.
+          ⊎-elim
+          (λ (z : editNo h room e ≡ 0). rw (after-accepted h room e z) (done-elsewhere h room e _ _ (edit-done h room e z) i w))
+          (λ (d : editNo h room e ≢ 0). rw (after-refused h room e d))
+          (same-or (editNo h room e) 0);
+      others = λ x ids a.
+          ⊎-elim
+          (λ (z : editNo h room e ≡ 0). rw (after-accepted h room e z) (done-others h room e _ _ (edit-done h room e z) x ids a))
+          (λ (d : editNo h room e ≢ 0). rw (after-refused h room e d) (a .walks))
+          (same-or (editNo h room e) 0);
+    }
+
+-- Document 01's third demand. Take an image that opened strictly, with any lent tables, and any list of calls. Whatever call comes next, it keeps what is promised of it.
+pub demand-three : (img : List ℕ) (used : ℕ) (t : Tables) → openNo Strict img used (shortest t) ≡ 0 → (cs : List Call) (room : ℕ) (e : Edit)
+    → Promised (afterAll (opened img used t) cs) room e (after (afterAll (opened img used t) cs) room e)
+demand-three img used t z cs room e = call-promised (afterAll (opened img used t) cs) room e (all-sure cs (opened img used t) (opened-sure img used t z))
