@@ -14,7 +14,7 @@ use Rattle.lists.specs.Lists.{both, every, tab, sameList}
 use Rattle.lists.proofs.Cases.{both-true, both-left, both-right, same-test, every-at, every-of}
 use Rattle.lists.proofs.Tab.{getD-tab, is-tab}
 use Rattle.lists.proofs.Splice.{sameList-true, sameList-refl}
-use Rattle.header.specs.Fields.{majorOf}
+use Rattle.header.specs.Versions.{majorOf}
 use Rattle.header.specs.declared.Version.{Version}
 use Rattle.header.specs.declared.Version.the-variants.{V3, V4}
 use Rattle.header.specs.declared.Header.{Header}

@@ -8,7 +8,8 @@ use Rattle.lists.specs.Lists.{every, tab, part, sameList}
 use Rattle.lists.specs.Rows.{refusal}
 use Rattle.words.specs.Words.{le, digits}
 use Rattle.consts.specs.Consts.{endOfChain, fatSector, freeSector}
-use Rattle.header.specs.Fields.{numberAt, listOf, idsThenFree, versionOf}
+use Rattle.fields.specs.Fields.{numberAt, listOf, idsThenFree}
+use Rattle.header.specs.Versions.{versionOf}
 use Rattle.header.specs.Read.{headerOf, unknown, countsDirs, dirsOf, endIfFree}
 use Rattle.header.specs.Write.{headerBytes}
 use Rattle.header.specs.declared.Validation.the-variants.{Strict}

@@ -12,7 +12,7 @@ use lib.Seq.{ext-getD, getD-drop}
 use Rattle.lists.specs.Rows.{refusal}
 use Rattle.lists.proofs.Cases.{below-or, same-or, both-true, both-left, both-right, every-at, every-of}
 use Rattle.lists.proofs.Splice.{sameList-true}
-use Rattle.header.specs.Fields.{lengthOf}
+use Rattle.header.specs.Versions.{lengthOf}
 use Rattle.header.specs.Read.{headerOf}
 use Rattle.header.specs.declared.Header.{Header}
 use Rattle.header.specs.declared.Validation.{Validation}

@@ -6,7 +6,7 @@ use lib.Dec.{eqb}
 use lib.ListN.{length, getD, take, drop, replicate}
 use Rattle.lists.specs.Lists.{choose, both, every, sameList}
 use Rattle.consts.specs.Consts.{freeSector}
-use Rattle.header.specs.Fields.{lengthOf, majorOf}
+use Rattle.header.specs.Versions.{lengthOf, majorOf}
 use Rattle.header.specs.Read.{headerOf}
 use Rattle.header.specs.declared.Header.{Header}
 use Rattle.header.specs.declared.Validation.{Validation}

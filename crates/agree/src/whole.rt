@@ -16,7 +16,7 @@ ghost use lib.Dec.{eqb};
 ghost use lib.ListN.{length};
 ghost use Rattle.lists.specs.Lists.{both};
 ghost use Rattle.lists.specs.Rows.{refusal};
-ghost use Rattle.header.specs.Fields.{lengthOf};
+ghost use Rattle.header.specs.Versions.{lengthOf};
 ghost use Rattle.fat.specs.Lists.{roomOf};
 ghost use Rattle.alloc.specs.Opening.{openTables, shortest as shortestOf, tableRows};
 ghost use Rattle.agree.specs.Agree.{agreement, tablesHeld};

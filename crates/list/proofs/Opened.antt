@@ -9,7 +9,7 @@ use lib.Seq.{take-at}
 use Rattle.lists.specs.Lists.{splice}
 use Rattle.lists.proofs.Tab.{length-tab}
 use Rattle.consts.specs.Text.{Put}
-use Rattle.header.specs.Fields.{lengthOf}
+use Rattle.header.specs.Versions.{lengthOf}
 use Rattle.header.specs.Read.{headerOf}
 use Rattle.header.specs.declared.Version.{Version}
 use Rattle.header.specs.declared.Version.the-variants.{V3, V4}

@@ -27,13 +27,13 @@ use Rattle.disk.specs.Needed.{resizeMore, writeMore}
 use Rattle.disk.proofs.Counting.{fat-full, difat-none, difat-suc, needs-full, needs-not}
 use Rattle.disk.proofs.Keeping.{each-many, sectors-inside}
 use Rattle.disk.proofs.Fitting.{difatNew, difatMarked, full-many, full-room, full-place, marked-room, ready-full, ready-part, new-full, ready-room, ready-has, count-full, count-part, new-sectors}
-use Rattle.moves.specs.Hand.{Hand, Chain, point, takenId, takeSector, freeSectorOf, freeRun, linked, extendOne, extend}
-use Rattle.moves.specs.Fits.{FitsMore, FitsFrees}
+use Rattle.hand.specs.Hand.{Hand, Chain, point, takenId, takeSector, freeSectorOf, freeRun, linked, extendOne, extend}
+use Rattle.hand.specs.Fits.{FitsMore, FitsFrees}
 use Rattle.moves.specs.Change.{cut, shrink, withImage, idsOf, resized, written, FitsShrink, FitsResize, FitsWrite}
-use Rattle.moves.proofs.Taking.{take-none, take-one, taken-below}
-use Rattle.moves.proofs.Linking.{linked-none, linked-last, one-fits, more-room, more-last}
+use Rattle.hand.proofs.Taking.{take-none, take-one, taken-below}
+use Rattle.hand.proofs.Linking.{linked-none, linked-last, one-fits, more-room, more-last}
 use Rattle.moves.proofs.Extending.{extend-none, extend-more, extend-count}
-use Rattle.moves.proofs.Freeing.{free-none, free-more, frees-more}
+use Rattle.hand.proofs.Freeing.{free-none, free-more, frees-more}
 use Rattle.moves.proofs.Shrinking.{shrink-none, shrink-some, shrink-last, shrink-frees}
 use Rattle.moves.proofs.Changing.{chain-listed, chain-id, chain-writable, shrunk-writable, resized-more, resized-fewer, resize-shrink, write-covers}
 use Rattle.edits.specs.Roles.{Roles, fatsHeld, difatsHeld}

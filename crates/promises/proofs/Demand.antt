@@ -1,16 +1,13 @@
 -- The third demand: after any list of edits, what is in hand is what the bytes say, and each call did its edit and nothing else. Assumes nothing.
-use Prim.Native.Nat.{ℕ, zero, suc, _*_, _≤_, _<_}
+use Prim.Native.Nat.{ℕ, zero, suc, _*_, _<_}
 use mathlib.Core.Path.{_≡_, refl, sym, _∙_, ap}
-use mathlib.Core.Bool.{true, false}
-use mathlib.Core.List.{List, [], _∷_, _++_, append-nil, flatMap}
+use mathlib.Core.List.{List, [], _∷_, append-nil, flatMap}
 use mathlib.Core.Logic.{⊎-elim, _≢_}
 use native.Mathlib.Omega.{arith}
 use borrow.Author.Tests.{eq-eqb, ne-eqb}
-use lib.Dec.{eqb}
 use lib.ListN.{length, getD, take}
-use Rattle.lists.specs.Lists.{choose}
-use Rattle.lists.proofs.Cases.{true-or, same-or}
-use Rattle.header.specs.Fields.{lengthOf}
+use Rattle.lists.proofs.Cases.{same-or}
+use Rattle.header.specs.Versions.{lengthOf}
 use Rattle.header.specs.Read.{headerOf}
 use Rattle.header.specs.declared.Validation.the-variants.{Strict}
 use Rattle.header.specs.declared.Version.{Version}
@@ -21,15 +18,13 @@ use Rattle.alloc.specs.Opening.{Tables, openNo, shortest}
 use Rattle.alloc.specs.Opened.{padded}
 use Rattle.chain.specs.Bytes.{chainBytes}
 use Rattle.chain.specs.Walk.{lists, walkOf}
-use Rattle.moves.specs.Hand.{Chain}
+use Rattle.hand.specs.Hand.{Chain}
 use Rattle.moves.specs.Change.{idsOf}
 use Rattle.edits.specs.Untouched.{Other, Others}
 use Rattle.cfb.specs.Calls.{stateLen, walked, chainIds, outcomeIds}
-use Rattle.cfb.specs.Changes.{chainFrom, stateFrom, tablesIn, startIn, Changes, ChainWrites, ChainResizes}
-use Rattle.cfb.specs.declared.State.{State}
-use Rattle.cfb.specs.declared.Called.{Called}
+use Rattle.cfb.specs.Changes.{chainFrom, stateFrom, tablesIn, startIn}
 use Rattle.cfb.proofs.Refusing.{padded-front}
-use Rattle.promises.specs.Demand.{InHand, Edit, write, resize, free, named, editNo, chainNamed, chainAfter, handOf, after, Call, afterAll, opened, idsFrom, bytesFrom, startAfter, edited, Elsewhere, Another, Promised}
+use Rattle.promises.specs.Demand.{InHand, Edit, write, resize, free, named, editNo, chainNamed, chainAfter, handOf, after, Call, afterAll, opened, idsFrom, bytesFrom, edited, Elsewhere, Another, Promised}
 use Rattle.promises.specs.Whole.{fatHeld}
 use Rattle.promises.proofs.After.{AgreesAfter, resize-agrees, resize-strict, resize-len, write-agrees, write-strict, write-len}
 use Rattle.promises.proofs.Calls.{Walks, resize-walks, resize-edits, resize-keeps, write-walks, write-edits, write-keeps}

@@ -18,9 +18,9 @@ use Rattle.lists.proofs.Tab.{length-tab, getD-tab}
 use Rattle.words.specs.Words.{le}
 use Rattle.words.proofs.Laws.{le-ext}
 use Rattle.consts.specs.Consts.{maxRegular, endOfChain, freeSector}
-use Rattle.header.specs.Fields.{fatsAt, difatAt, difatsAt, numberAt, entryAt, listOf, idsIn, allFree, idsThenFree}
+use Rattle.fields.specs.Fields.{fatsAt, difatAt, difatsAt, numberAt, entryAt, listOf, idsIn, allFree, idsThenFree}
 use Rattle.header.specs.Read.{headerOf, endIfFree}
-use Rattle.header.proofs.Table.{number-is}
+use Rattle.fields.proofs.Table.{number-is}
 use Rattle.sectors.specs.Sectors.{startOf, sectorOf, perSector, entryIn, entryOf}
 use Rattle.fat.specs.Lists.{difatCount}
 use Rattle.fat.proofs.Listing.{ceil-enough}

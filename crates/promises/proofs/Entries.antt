@@ -15,10 +15,10 @@ use Rattle.disk.specs.Disk.{Disk, store, setFat, pushFat, listFat, listDifat, a
 use Rattle.disk.specs.Fits.{FitsNew}
 use Rattle.disk.proofs.Counting.{after-needs, after-not}
 use Rattle.disk.proofs.Fitting.{append-sectors, ready-full, ready-part, ready-sectors, ready-room, new-sectors, reused-sectors}
-use Rattle.moves.specs.Hand.{Hand, point, takenId, takeSector, freeSectorOf, freeRun}
-use Rattle.moves.specs.Fits.{FitsHand}
-use Rattle.moves.proofs.Taking.{take-none, take-one, id-new, id-last}
-use Rattle.moves.proofs.Freeing.{free-none, free-more}
+use Rattle.hand.specs.Hand.{Hand, point, takenId, takeSector, freeSectorOf, freeRun}
+use Rattle.hand.specs.Fits.{FitsHand}
+use Rattle.hand.proofs.Taking.{take-none, take-one, id-new, id-last}
+use Rattle.hand.proofs.Freeing.{free-none, free-more}
 use Rattle.edits.proofs.Growing.{needs-far}
 
 -- an entry set: it is v then, and the others stay

@@ -9,11 +9,11 @@ use Rattle.lists.proofs.Cases.{below-or, same-or}
 use Rattle.consts.specs.Consts.{difatSector, fatSector, freeSector}
 use Rattle.fat.specs.Lists.{ceil}
 use Rattle.disk.specs.Needed.{resizeMore, writeMore}
-use Rattle.moves.specs.Hand.{Hand, Chain, takenId, takeSector, extendOne, extend}
-use Rattle.moves.specs.Fits.{FitsMore}
+use Rattle.hand.specs.Hand.{Hand, Chain, takenId, takeSector, extendOne, extend}
+use Rattle.hand.specs.Fits.{FitsMore}
 use Rattle.moves.specs.Change.{shrink, withImage, resized, written, FitsResize, FitsWrite}
-use Rattle.moves.proofs.Taking.{take-none, take-one, id-new, id-last}
-use Rattle.moves.proofs.Linking.{linked-none, linked-last, one-sectors, one-free, one-fits, more-room, more-taken, more-last}
+use Rattle.hand.proofs.Taking.{take-none, take-one, id-new, id-last}
+use Rattle.hand.proofs.Linking.{linked-none, linked-last, one-sectors, one-free, one-fits, more-room, more-taken, more-last}
 use Rattle.moves.proofs.Extending.{extend-none, extend-more}
 use Rattle.moves.proofs.Staying.{ready-least, one-frees-at}
 use Rattle.moves.proofs.Changing.{resized-more, resized-fewer, resize-shrink}

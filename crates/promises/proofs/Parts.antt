@@ -12,8 +12,8 @@ use Rattle.fat.specs.Lists.{difatCount}
 use Rattle.judge.specs.Judge.{pointed, marksOf}
 use Rattle.judge.proofs.Judging.{pointed-by, pointer-of, markOf, mark-at}
 use Rattle.alloc.proofs.Filled.{length-marks}
-use Rattle.moves.specs.Hand.{Hand, Chain}
-use Rattle.moves.specs.Fits.{FitsHand}
+use Rattle.hand.specs.Hand.{Hand, Chain}
+use Rattle.hand.specs.Fits.{FitsHand}
 use Rattle.edits.specs.Roles.{Roles, fatsHeld, difatsHeld}
 use Rattle.promises.specs.Whole.{Formed, fatHeld, fatsList, difatsList}
 use Rattle.promises.proofs.Forming.{PointersIn}

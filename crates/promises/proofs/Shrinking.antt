@@ -8,10 +8,10 @@ use lib.ListN.{length, getD}
 use Rattle.lists.proofs.Cases.{below-or, same-or}
 use Rattle.consts.specs.Consts.{endOfChain, freeSector}
 use Rattle.fat.specs.Lists.{fatCount, difatCount}
-use Rattle.moves.specs.Hand.{Hand, Chain, freeSectorOf, freeRun}
+use Rattle.hand.specs.Hand.{Hand, Chain, freeSectorOf, freeRun}
 use Rattle.moves.specs.Change.{shrink, FitsShrink}
-use Rattle.moves.proofs.Freeing.{free-more}
-use Rattle.moves.proofs.Linking.{linked-none, linked-last}
+use Rattle.hand.proofs.Freeing.{free-more}
+use Rattle.hand.proofs.Linking.{linked-none, linked-last}
 use Rattle.moves.proofs.Shrinking.{shrink-none, shrink-some, shrink-last, shrink-frees, cut-counts, shrink-free, shrink-sectors}
 use Rattle.edits.specs.Roles.{Roles, fatsHeld, difatsHeld}
 use Rattle.edits.proofs.Order.{shrink-frees-stay, shrink-freed}

@@ -16,13 +16,13 @@ use Rattle.disk.specs.Fits.{FitsNew}
 use Rattle.disk.specs.Needed.{resizeMore, writeMore}
 use Rattle.disk.proofs.Counting.{difat-suc, after-needs, after-not}
 use Rattle.disk.proofs.Fitting.{append-sectors, ready-full, ready-part, new-many, new-sectors, count-full, reused-sectors, one-more-grows}
-use Rattle.moves.specs.Hand.{Hand, Chain, marked, point, takenId, takeSector, freeSectorOf, freeRun, linked, extendOne, extend}
-use Rattle.moves.specs.Fits.{FitsHand, FitsFrees, FitsMore}
+use Rattle.hand.specs.Hand.{Hand, Chain, marked, point, takenId, takeSector, freeSectorOf, freeRun, linked, extendOne, extend}
+use Rattle.hand.specs.Fits.{FitsHand, FitsFrees, FitsMore}
 use Rattle.moves.specs.Change.{shrink, withImage, resized, written, FitsShrink, FitsResize, FitsWrite}
-use Rattle.moves.proofs.Pointing.{marked-below, marked-past}
-use Rattle.moves.proofs.Taking.{take-none, take-one}
-use Rattle.moves.proofs.Freeing.{free-none, free-more, frees-more}
-use Rattle.moves.proofs.Linking.{linked-none, linked-last, one-fits, more-room, more-last}
+use Rattle.hand.proofs.Pointing.{marked-below, marked-past}
+use Rattle.hand.proofs.Taking.{take-none, take-one}
+use Rattle.hand.proofs.Freeing.{free-none, free-more, frees-more}
+use Rattle.hand.proofs.Linking.{linked-none, linked-last, one-fits, more-room, more-last}
 use Rattle.moves.proofs.Extending.{extend-none, extend-more}
 use Rattle.moves.proofs.Shrinking.{shrink-none, shrink-some, shrink-last, shrink-frees}
 use Rattle.moves.proofs.Changing.{resized-more, resized-fewer, resize-shrink}

@@ -20,8 +20,8 @@ use Rattle.alloc.proofs.Filled.{front-padded, length-marks}
 use Rattle.chain.specs.Steps.{Linked, Unpointed}
 use Rattle.chain.specs.Walk.{lists, walkOf}
 use Rattle.chain.proofs.Chains.{lists-exactly}
-use Rattle.moves.specs.Hand.{Chain}
-use Rattle.moves.specs.Fits.{FitsChain}
+use Rattle.hand.specs.Hand.{Chain}
+use Rattle.hand.specs.Fits.{FitsChain}
 use Rattle.moves.specs.Change.{idsOf}
 use Rattle.moves.proofs.Changing.{chain-listed, chain-id}
 use Rattle.cfb.specs.Calls.{stateLen, agreedRows, walkRows, chainIds}

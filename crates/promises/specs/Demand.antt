@@ -12,10 +12,10 @@ use Rattle.sectors.specs.Sectors.{sectorOf}
 use Rattle.alloc.specs.Opening.{Tables, openNo, shortest}
 use Rattle.alloc.specs.Opened.{padded, tablesLeft}
 use Rattle.agree.specs.Agrees.{Permuted}
-use Rattle.chain.specs.Walk.{Outcome, lists}
+use Rattle.chain.specs.Walk.{lists}
 use Rattle.chain.specs.Bytes.{chainBytes}
 use Rattle.disk.specs.Needed.{writeMore}
-use Rattle.moves.specs.Hand.{Chain}
+use Rattle.hand.specs.Hand.{Chain}
 use Rattle.moves.specs.Change.{resized, written}
 use Rattle.edits.specs.Roles.{fatsHeld, difatsHeld}
 use Rattle.cfb.specs.Calls.{stateLen, walked, chainIds}

@@ -2,7 +2,7 @@
 use Prim.Native.Nat.{ℕ, _≤_}
 use mathlib.Core.Path.{_≡_}
 use lib.ListN.{getD}
-use Rattle.moves.specs.Hand.{Hand}
+use Rattle.hand.specs.Hand.{Hand}
 use Rattle.edits.specs.Roles.{fatsHeld, difatsHeld}
 
 -- document 01: past its count each table holds zero

@@ -9,7 +9,7 @@ use lib.ListN.{length, take, drop}
 use Rattle.lists.specs.Lists.{choose, part, sameList, splice}
 use Rattle.lists.proofs.Splice.{sameList-true}
 use Rattle.words.specs.Words.{le}
-use Rattle.header.specs.Fields.{numberedOf}
+use Rattle.header.specs.Versions.{numberedOf}
 use Rattle.header.specs.Read.{readNumber, ReadSays}
 use Rattle.header.specs.Write.{writeNumber, writeNo, headerBytes, WriteSays}
 use Rattle.header.specs.declared.Version.{Version}

@@ -9,7 +9,7 @@ use borrow.Author.Tests.{eq-eqb, ne-eqb}
 use lib.ListN.{length, getD, drop, drop-of-length-le}
 use Rattle.lists.specs.Lists.{tab}
 use Rattle.lists.proofs.Cases.{not-both}
-use Rattle.header.specs.Fields.{majorOf}
+use Rattle.header.specs.Versions.{majorOf}
 use Rattle.header.specs.declared.Version.{Version}
 use Rattle.header.specs.declared.Version.the-variants.{V3, V4}
 use Rattle.header.specs.declared.Validation.the-variants.{Permissive, Strict}

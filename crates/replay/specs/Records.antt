@@ -9,7 +9,7 @@ use Rattle.words.specs.Words.{le}
 use Rattle.consts.specs.Pretty.{prettifyOf}
 use Rattle.consts.specs.Text.{textOf}
 use Rattle.consts.specs.declared.Sector.{Sector}
-use Rattle.header.specs.Fields.{numberedOf}
+use Rattle.header.specs.Versions.{numberedOf}
 use Rattle.header.specs.Read.{readNo, headerOf, none}
 use Rattle.header.specs.Write.{writeNo, headerBytes}
 use Rattle.header.specs.declared.Version.{Version}
