@@ -74,7 +74,7 @@ grown-none S d k j fats difats id f g hk hj h =
     }
 
 -- a place of the DIFAT leaves the FAT's list, and the DIFAT's too where no DIFAT sector is needed
-hold-fats : (S p : ℕ) (d : Disk) → holdPlace S d p .fats ≡ d .fats
+pub hold-fats : (S p : ℕ) (d : Disk) → holdPlace S d p .fats ≡ d .fats
 unfolding holdPlace appendDifat store pushFat listDifat
 hold-fats S p d = ⊎-elim (λ (t : needsDifat S p ≡ true). rw t refl) (λ (t : needsDifat S p ≡ false). rw t refl) (true-or (needsDifat S p))
 

@@ -55,7 +55,7 @@ ids-high (x ∷ xs) h = at (leb x maxRegular) refl h (ids-high xs)
     at false e h rest = leb-false x maxRegular e
 
 -- in a list that passes as FREE every entry is
-free-each : (xs : List ℕ) → allFree xs ≡ true → (i : ℕ) → i < length xs → getD xs i 0 ≡ freeSector
+pub free-each : (xs : List ℕ) → allFree xs ≡ true → (i : ℕ) → i < length xs → getD xs i 0 ≡ freeSector
 unfolding allFree
 free-each [] t i h = absurd (omega arith)
 free-each (x ∷ xs) t zero h = eqb-true x freeSector (both-left (eqb x freeSector) (allFree xs) t)

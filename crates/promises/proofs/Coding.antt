@@ -36,6 +36,7 @@ use Rattle.moves.proofs.Extending.{extend-none, extend-more, extend-count}
 use Rattle.hand.proofs.Freeing.{free-none, free-more, frees-more}
 use Rattle.moves.proofs.Shrinking.{shrink-none, shrink-some, shrink-last, shrink-frees}
 use Rattle.moves.proofs.Changing.{chain-listed, chain-id, chain-writable, shrunk-writable, resized-more, resized-fewer, resize-shrink, write-covers}
+use Rattle.edits.proofs.Growing.{hold-fats}
 use Rattle.edits.specs.Roles.{Roles, fatsHeld, difatsHeld}
 use Rattle.edits.proofs.Roles.{one-roles, extend-roles, shrink-roles}
 use Rattle.promises.specs.Coded.{placeOf, Coded}
@@ -77,10 +78,6 @@ hold-stands {S} {R} {h} {k} {m} {p} {d} s far small low room =
     let same : difatCount S (suc p) ≡ difatCount S p = q ∙ sym (needs-not S p two far t) in
     rw t (stands-at refl same refl refl same s))
     (true-or (needsDifat S p))
-
-hold-fats : (S p : ℕ) (d : Disk) → holdPlace S d p .fats ≡ d .fats
-unfolding holdPlace appendDifat store pushFat listDifat
-hold-fats S p d = ⊎-elim (λ (t : needsDifat S p ≡ true). rw t refl) (λ (t : needsDifat S p ≡ false). rw t refl) (true-or (needsDifat S p))
 
 -- a FAT sector in its place of the DIFAT
 list-stands : {S R h k p : ℕ} {d : Disk} → Stands S R h (difatCount S p) k p (difatCount S p) d → (id : ℕ) → id ≡ getD (d .fats) p 0 → id < 2 ^ 32 → p < R

@@ -165,11 +165,11 @@ unfolding appendFat store pushFat listFat
 append-fat-more S d t = place-fat-more S (d .sectors / perSector S) (d .sectors) _ t
 
 -- a new sector's entry
-new-fat : (S : ℕ) (d : Disk) → newSector S d .fat ≡ set (ready S d .fat) (ready S d .sectors) endOfChain
+pub new-fat : (S : ℕ) (d : Disk) → newSector S d .fat ≡ set (ready S d .fat) (ready S d .sectors) endOfChain
 unfolding newSector store pushFat
 new-fat S d = refl
 
-reused-fat : (S : ℕ) (d : Disk) (id : ℕ) → reused S d id .fat ≡ set (d .fat) id endOfChain
+pub reused-fat : (S : ℕ) (d : Disk) (id : ℕ) → reused S d id .fat ≡ set (d .fat) id endOfChain
 unfolding reused store setFat
 reused-fat S d id = refl
 

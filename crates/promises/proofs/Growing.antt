@@ -20,11 +20,12 @@ use Rattle.moves.proofs.Changing.{resized-more, resized-fewer, resize-shrink}
 use Rattle.edits.specs.Roles.{Roles, fatsHeld, difatsHeld}
 use Rattle.edits.proofs.Growing.{GrownTo, one-grown}
 use Rattle.edits.proofs.Roles.{one-roles, extend-roles}
+use Rattle.promises.specs.Tails.{Blank}
 use Rattle.promises.specs.Whole.{Formed, Held}
 use Rattle.promises.proofs.Entries.{Taken, take-taken}
 use Rattle.promises.proofs.Graph.{StrungIn, held-strung, taken-none, link-other, link-here, one-strung}
 use Rattle.promises.proofs.Forming.{Pointers, PointersIn, Target, Bare, point-pointers, taken-pointers}
-use Rattle.promises.proofs.Parts.{Listings, Blank, formed-pointers, formed-listings, parts-formed}
+use Rattle.promises.proofs.Parts.{Listings, formed-pointers, formed-listings, parts-formed}
 use Rattle.promises.proofs.Shrinking.{formed-shrunk}
 
 -- a sector taken leaves the marks

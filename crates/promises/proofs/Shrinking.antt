@@ -16,11 +16,12 @@ use Rattle.moves.proofs.Shrinking.{shrink-none, shrink-some, shrink-last, shrin
 use Rattle.edits.specs.Roles.{Roles, fatsHeld, difatsHeld}
 use Rattle.edits.proofs.Order.{shrink-frees-stay, shrink-freed}
 use Rattle.edits.proofs.Roles.{Freed, freed-from, shrink-roles, shrink-lists}
+use Rattle.promises.specs.Tails.{Blank}
 use Rattle.promises.specs.Whole.{Formed, Held}
 use Rattle.promises.proofs.Entries.{free-entry, free-length, free-run-others}
 use Rattle.promises.proofs.Graph.{StrungIn, held-strung, cutHand, cut-other, cut-here, shrunk-fat}
 use Rattle.promises.proofs.Forming.{PointersIn, Bare, point-pointers, end-target, run-pointers, hand-few}
-use Rattle.promises.proofs.Parts.{Listings, Blank, formed-pointers, formed-listings, parts-formed}
+use Rattle.promises.proofs.Parts.{Listings, formed-pointers, formed-listings, parts-formed}
 
 -- a number is one of c from place i on, or none of them
 found : (ids : List ℕ) (x i c : ℕ) → ((j : ℕ) × (i ≤ j) × (j < i + c) × (x ≡ getD ids j 0)) ⊎ ((j : ℕ) → i ≤ j → j < i + c → x ≢ getD ids j 0)

@@ -32,10 +32,10 @@ use Rattle.cfb.proofs.Ending.{start-none, start-some}
 use Rattle.cfb.proofs.Lying.{lists-chain}
 use Rattle.cfb.proofs.Ready.{agrees, strict-mode, chain-zero, chained, frees, id-below}
 use Rattle.cfb.proofs.Refusing.{padded-front}
+use Rattle.promises.specs.Tails.{Blank}
 use Rattle.promises.specs.Whole.{Formed, Held, fatHeld}
 use Rattle.promises.proofs.Base.{agreed-formed}
 use Rattle.promises.proofs.Graph.{getD-any, held-length}
-use Rattle.promises.proofs.Parts.{Blank}
 
 -- past a list that zeros follow there are zeros
 pub zero-past : (xs : List ℕ) (m i : ℕ) → length xs ≤ i → getD (padded xs m) i 0 ≡ 0
