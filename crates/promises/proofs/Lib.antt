@@ -3,6 +3,7 @@ pub mod Base
 pub mod Calls
 pub mod Encoding
 pub mod Entries
+pub mod Examples
 pub mod Forming
 pub mod Graph
 pub mod Growing
