@@ -2,7 +2,6 @@
 use crate::alike::same_header;
 use crate::alike::zero_bytes_from;
 use crate::alike::zeros_from;
-use crate::frees::same_frees;
 use crate::tables::same_tables;
 use alloc::early::judge_early;
 use alloc::open::lesser_of;
@@ -10,6 +9,7 @@ use fat::listed::ceil;
 use fat::load::past_header;
 use header::Header;
 use header::Validation;
+use points::frees::same_frees;
 ghost use mathlib.Core.Path.{_≡_};
 ghost use Prim.Native.Nat.{_≤_};
 ghost use lib.Dec.{eqb};

@@ -13,7 +13,7 @@ use Rattle.header.specs.Read.{headerOf, unknown, countsDirs, endIfFree}
 use Rattle.header.specs.Write.{headerBytes}
 use Rattle.header.specs.declared.Version.the-variants.{V3}
 use Rattle.header.specs.declared.Header.{Header}
-use Rattle.list.specs.Listing.{listing}
+use Rattle.listing.specs.Listing.{listing}
 
 -- document 01, image Q: version 3, one FAT sector at 0
 unfoldable pub headerQ : Header
