@@ -4,6 +4,7 @@ use crate::consts::MAX_SECTORS;
 use crate::ffi::{self, Hand, Look, Tables, TablesMut};
 use crate::view::View;
 use crate::{Refusal, State, Validation, Version};
+use std::fmt;
 
 /// How many elements each lent table must have, at least, for an image of so many bytes: its whole sectors less the
 /// header's, at most [`MAX_SECTORS`].
@@ -28,7 +29,6 @@ pub fn room_for(image_len: usize, version: Version) -> usize {
 /// let memory = Memory::split(&mut words, &mut marks);
 /// assert_eq!(memory.fat.len(), 7);
 /// ```
-#[derive(Debug)]
 pub struct Memory<'a> {
     /// For the FAT.
     pub fat: &'a mut [u32],
@@ -108,7 +108,6 @@ impl<'a> Memory<'a> {
 /// # Ok(())
 /// # }
 /// ```
-#[derive(Debug)]
 pub struct Lent<'a, B> {
     image: B,
     memory: Memory<'a>,
@@ -356,5 +355,19 @@ impl<B: AsRef<[u8]> + AsMut<[u8]>> Lent<'_, B> {
         let (tables, ids) = self.memory.tables_mut();
         let hand = Hand { state: &mut self.state.words, image: self.image.as_mut(), tables };
         ffi::free_chain(hand, ids, start).map(|_| ())
+    }
+}
+
+impl fmt::Debug for Memory<'_> {
+    fn fmt(&self, out: &mut fmt::Formatter<'_>) -> fmt::Result {
+        let lengths =
+            [&self.fat, &self.fat_sectors, &self.difat_sectors, &self.free_sectors, &self.ids].map(|list| list.len());
+        out.debug_struct("Memory").field("words", &lengths).field("marks", &self.marks.len()).finish()
+    }
+}
+
+impl<B> fmt::Debug for Lent<'_, B> {
+    fn fmt(&self, out: &mut fmt::Formatter<'_>) -> fmt::Result {
+        out.debug_struct("Lent").field("state", &self.state).field("memory", &self.memory).finish_non_exhaustive()
     }
 }

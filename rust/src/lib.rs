@@ -25,3 +25,8 @@ pub use lent::{room_for, Lent, Memory};
 pub use refusal::Refusal;
 pub use state::State;
 pub use view::View;
+
+/// The Rust in docs/MOVING-FROM-CFB.md, run as a test.
+#[cfg(doctest)]
+#[doc = include_str!("../../docs/MOVING-FROM-CFB.md")]
+struct Moving;

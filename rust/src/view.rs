@@ -151,7 +151,7 @@ impl<'a> View<'a> {
         let in_use = |entry: u32| matches!(kind_of(entry), Kind::Regular | Kind::End);
         let marks = first(self.look.tables.marks, self.sectors);
         let entries = self.fat().iter().zip(marks);
-        entries.zip(0..).filter(move |((&entry, &mark), _)| mark == 0 && in_use(entry)).map(|(_, id)| id)
+        entries.zip(0..=u32::MAX).filter(move |((&entry, &mark), _)| mark == 0 && in_use(entry)).map(|(_, id)| id)
     }
 
     /// The bytes of a sector, if there is one of this id.
