@@ -278,6 +278,39 @@ static void changes_of_q(void)
     OPENS_THE_SAME(&q);
 }
 
+/* 11 at each of the five calls, with one of the tables (the last is the list of ids) an element short. */
+static void short_for_calls(size_t which)
+{
+    copy before = kept(), after;
+    rasuvelk_answer answer;
+    uint8_t buf[10];
+    size_t lens[6], call;
+    for (call = 0; call < 6; call++) {
+        lens[call] = Q_ROOM - (call == which);
+    }
+#define LENT_SHORT                                                                                                 \
+    &q.state, q.image, q.image_len, q.fat, lens[0], q.fats, lens[1], q.difats, lens[2], q.frees, lens[3], q.marks, \
+        lens[4], q.ids, lens[5]
+    for (call = 0; call < 5; call++) {
+        uint32_t number = 0;
+        memset(q.ids, 0x66, 4 * q.room);
+        memset(&answer, 0x33, sizeof answer);
+        memset(buf, 0x55, sizeof buf);
+        switch (call) {
+        case 0: number = rasuvelk_open_chain(LENT_SHORT, 1, &answer); break;
+        case 1: number = rasuvelk_read_chain(LENT_SHORT, 1, 0, buf, sizeof buf, &answer); break;
+        case 2: number = rasuvelk_write_chain(LENT_SHORT, 1, 0, buf, sizeof buf, &answer); break;
+        case 3: number = rasuvelk_resize_chain(LENT_SHORT, 1, 0, &answer); break;
+        default: number = rasuvelk_free_chain(LENT_SHORT, 1, &answer); break;
+        }
+        GIVES(number, RASUVELK_SHORT_TABLE);
+        after = kept();
+        CHECK(all(q.ids, 4 * q.room, 0x66) && all(&answer, sizeof answer, 0) && all(buf, sizeof buf, 0x55));
+        CHECK(memcmp(&before, &after, sizeof after) == 0);
+    }
+#undef LENT_SHORT
+}
+
 /* 11 and 19: tables of another length, a state and tables that no opening gave. */
 static void lent_wrongly(void)
 {
@@ -285,7 +318,7 @@ static void lent_wrongly(void)
     rasuvelk_state state;
     uint32_t tables[5][Q_ROOM];
     uint8_t marks[Q_ROOM];
-    size_t lens[6], which;
+    size_t lens[5], which;
     make_q();
     for (which = 0; which < 5; which++) {
         size_t i;
@@ -302,15 +335,7 @@ static void lent_wrongly(void)
     }
     open_q();
     for (which = 0; which < 6; which++) {
-        size_t i;
-        for (i = 0; i < 6; i++) {
-            lens[i] = Q_ROOM - (i == which);
-        }
-        memset(q.ids, 0x66, 4 * q.room);
-        GIVES(rasuvelk_open_chain(&q.state, q.image, q.image_len, q.fat, lens[0], q.fats, lens[1], q.difats, lens[2],
-                                  q.frees, lens[3], q.marks, lens[4], q.ids, lens[5], 1, &answer),
-              RASUVELK_SHORT_TABLE);
-        CHECK(all(q.ids, 4 * q.room, 0x66) && all(&answer, sizeof answer, 0));
+        short_for_calls(which);
     }
     q.state.num_sectors++;
     REFUSED(rasuvelk_lent_chain(&q, 1, &answer), RASUVELK_DISAGREES);
@@ -330,6 +355,34 @@ static void lent_wrongly(void)
     CHECK(LISTS(&q, q.ids, 1, 2, 3, 4));
     CHECK(rasuvelk_lend(&q, q_bytes, sizeof q_bytes, q_memory, 21 * Q_ROOM - 1) == RASUVELK_SHORT_TABLE);
     CHECK(rasuvelk_lend(&q, q_bytes, sizeof q_bytes, NULL, 21 * Q_ROOM) == RASUVELK_SHORT_TABLE);
+}
+
+/* Version 4: a header alone, and a chain that is begun, with room for the FAT, two sectors and no more. */
+static void version_4(void)
+{
+    enum { LONG = 4096 };
+    static uint8_t bytes[4 * LONG], buf[LONG + 1];
+    static uint32_t memory[21 * 31 / 4 + 1];
+    rasuvelk_header header;
+    rasuvelk_lent lent;
+    rasuvelk_answer answer;
+    memset(&header, 0xff, sizeof header);
+    header.version = 4;
+    header.num_dir_sectors = header.num_fat_sectors = header.num_minifat_sectors = header.num_difat_sectors = 0;
+    header.first_dir_sector = header.first_minifat_sector = header.first_difat_sector = END;
+    GIVES(rasuvelk_write_header(&header, bytes, sizeof bytes), 0);
+    GIVES(rasuvelk_lend(&lent, bytes, sizeof bytes, memory, sizeof memory), 0);
+    GIVES(rasuvelk_lent_open(&lent, 512, RASUVELK_STRICT), RASUVELK_WHOLE_SECTORS);
+    GIVES(rasuvelk_lent_open(&lent, LONG, RASUVELK_STRICT), 0);
+    CHECK(lent.state.version == 4 && lent.state.num_sectors == 0);
+    memset(buf, 6, sizeof buf);
+    GIVES(rasuvelk_lent_resize(&lent, END, 2 * LONG + 1, &answer), RASUVELK_NO_ROOM);
+    GIVES(rasuvelk_lent_write(&lent, END, 0, buf, sizeof buf, &answer), 0);
+    CHECK(answer.ids == 2 && answer.start == 1 && answer.bytes == LONG + 1 && LISTS(&lent, lent.ids, 1, 2));
+    CHECK(lent.state.used == sizeof bytes && lent.state.num_fat_sectors == 1 && get32(bytes + 44) == 1);
+    CHECK(get32(bytes + 76) == 0 && lent.fat[0] == RASUVELK_FAT_SECTOR && get32(bytes + LONG) == RASUVELK_FAT_SECTOR);
+    CHECK(all(bytes + 2 * LONG, LONG + 1, 6) && all(bytes + 3 * LONG + 1, LONG - 1, 0));
+    OPENS_THE_SAME(&lent);
 }
 
 /* Modes, and a loop. */
@@ -533,6 +586,7 @@ int main(int argc, char **argv)
     chains_of_q();
     changes_of_q();
     lent_wrongly();
+    version_4();
     modes();
     headers_and_items();
     real_file(argv[1]);
