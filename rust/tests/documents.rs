@@ -29,8 +29,8 @@ fn the_c_header_has_the_same_numbers() {
             break;
         };
         let number: u32 = rest.split([',', ' ']).next().unwrap().parse().unwrap();
-        // PascalCase here, RASUVELK_SNAKE_CASE there.
-        let mut expected = String::from("RASUVELK");
+        // PascalCase here, RASUVELK_REFUSED_SNAKE_CASE there.
+        let mut expected = String::from("RASUVELK_REFUSED");
         for letter in format!("{:?}", Refusal::from_number(number)).chars() {
             if letter.is_uppercase() {
                 expected.push('_');
