@@ -1,4 +1,4 @@
-// The readings, the writings and the short lists on the list of answers, each asked of the library again.
+// The readings, the writings and the short lists on the list that the program `replay` reads, each asked of the library again.
 use consts::Item;
 use header::Header;
 use header::Numbered;

@@ -1,4 +1,4 @@
-// The lines of a listing, put into a lent buffer one after the other.
+// The lines of the listing of a FAT, put into a lent buffer one after the other.
 use consts::Item;
 use consts::Sector;
 ghost use Prim.Native.Nat.{_+_, _*_, _≤_};

@@ -1,4 +1,4 @@
--- What the program writes, as a function of the bytes that it reads (document 01, the end of "Cases from the shelf"). Assumes nothing.
+-- What the program `list` writes, as a function of the bytes that it reads (document 01, the end of "Cases from the shelf"). Assumes nothing.
 use Prim.Native.Nat.{ℕ}
 use mathlib.Core.List.{List}
 use lib.Dec.{eqb, ltb}

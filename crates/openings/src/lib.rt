@@ -1,4 +1,4 @@
-// The openings on the list: the image that a record describes is made, opened, and what came of it compared.
+// The openings on the list that the program `replay` reads: the image that a record describes is made, opened, and what came of it compared.
 use cfb::State;
 use records::length_in;
 use records::mode_in;

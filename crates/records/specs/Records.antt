@@ -1,4 +1,4 @@
--- What a record of the list holds: 1,024 bytes for one call and its answer. Assumes nothing.
+-- What a record of the list that the program `replay` reads holds: 1,024 bytes for one call and its answer. Assumes nothing.
 use Prim.Native.Nat.{ℕ, _*_}
 use mathlib.Core.Path.{_≡_}
 use mathlib.Core.List.{List}

@@ -1,4 +1,4 @@
-// What a record of the list holds, and the comparison of two headers.
+// What a record of the list that the program `replay` reads holds, and the comparison of two headers.
 use header::Header;
 use header::Validation;
 use header::Version;
