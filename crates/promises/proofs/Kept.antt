@@ -15,9 +15,9 @@ use Rattle.header.specs.declared.Validation.the-variants.{Strict}
 use Rattle.fat.specs.Lists.{allBelow}
 use Rattle.alloc.specs.Opening.{Tables, openTables, openNo, shortest, leftIn}
 use Rattle.alloc.specs.Opened.{padded, tablesLeft}
-use Rattle.agree.specs.Agree.{occurs, timesFree, anyOrder}
-use Rattle.agree.specs.Agrees.{FreesOnce, Agrees, Permuted}
-use Rattle.agree.proofs.Freeing.{occurs-place, order-exactly}
+use Rattle.points.specs.Frees.{occurs, timesFree, anyOrder, FreesOnce}
+use Rattle.points.proofs.Freeing.{occurs-place, order-exactly}
+use Rattle.agree.specs.Agrees.{Agrees, Permuted}
 use Rattle.agree.proofs.Meaning.{agrees-exactly, opened-agrees}
 use Rattle.cfb.specs.Face.{sectorsOf, tablesOf, stateOf}
 use Rattle.cfb.specs.declared.State.{State}

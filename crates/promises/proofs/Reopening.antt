@@ -32,7 +32,8 @@ use Rattle.alloc.specs.Opening.{Tables, firstRows, tableRows, openFat, openTabl
 use Rattle.alloc.specs.Opened.{padded}
 use Rattle.alloc.proofs.First.{early-passed}
 use Rattle.alloc.proofs.Filled.{front-padded, length-openFat, length-marks, length-fats, length-difats}
-use Rattle.agree.specs.Agrees.{FreesOnce, Held, Agrees}
+use Rattle.points.specs.Frees.{FreesOnce}
+use Rattle.agree.specs.Agrees.{Held, Agrees}
 use Rattle.sound.specs.Sound.{Encodes, Sound, Accepts}
 use Rattle.sound.proofs.Sound.{strict-sound, opens-sound}
 use Rattle.hand.specs.Hand.{Hand}
