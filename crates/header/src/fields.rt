@@ -15,41 +15,41 @@ pub struct Field {
 }
 
 // The fields by their places in the table.
-pub(crate) const SIGNATURE: usize = 0;
+pub const SIGNATURE: usize = 0;
 
-pub(crate) const CLASS: usize = 1;
+pub const CLASS: usize = 1;
 
-pub(crate) const MINOR: usize = 2;
+pub const MINOR: usize = 2;
 
-pub(crate) const MAJOR: usize = 3;
+pub const MAJOR: usize = 3;
 
-pub(crate) const BYTE_ORDER: usize = 4;
+pub const BYTE_ORDER: usize = 4;
 
-pub(crate) const SECTOR_SHIFT: usize = 5;
+pub const SECTOR_SHIFT: usize = 5;
 
-pub(crate) const MINI_SHIFT: usize = 6;
+pub const MINI_SHIFT: usize = 6;
 
-pub(crate) const RESERVED: usize = 7;
+pub const RESERVED: usize = 7;
 
-pub(crate) const DIRS: usize = 8;
+pub const DIRS: usize = 8;
 
 pub const FATS: usize = 9;
 
-pub(crate) const DIR: usize = 10;
+pub const DIR: usize = 10;
 
-pub(crate) const TRANSACTION: usize = 11;
+pub const TRANSACTION: usize = 11;
 
-pub(crate) const CUTOFF: usize = 12;
+pub const CUTOFF: usize = 12;
 
-pub(crate) const MINIFAT: usize = 13;
+pub const MINIFAT: usize = 13;
 
-pub(crate) const MINIFATS: usize = 14;
+pub const MINIFATS: usize = 14;
 
 pub const DIFAT: usize = 15;
 
 pub const DIFATS: usize = 16;
 
-pub(crate) const ENTRIES: usize = 17;
+pub const ENTRIES: usize = 17;
 
 // The table of fields that the reader and the writer go by; the last is the first of the 109 entries.
 const FIELDS: [Field; 18] = [
@@ -82,7 +82,7 @@ pub(crate) fn row(place: usize) -> Field
 }
 
 // The number in a field of a whole header, by the field's place in the table.
-pub(crate) fn number_at(b: &[u8], place: usize) -> u32
+pub fn number_at(b: &[u8], place: usize) -> u32
     requires { ⌜ 512 ≤ length (now b) ⌝ }
     requires { ⌜ holdsNumber place ≡ true ⌝ }
     ensures { λ r. ⌜ r ≡ numberAt (now (b .entry)) place ⌝ }

@@ -1,0 +1,95 @@
+// A reader that holds a lent header and its place in the table of fields (MS-CFB 2.2). Its functions take it apart
+// and call those over a slice and a place; a caller of `number_of` sees no reader at all.
+use header::fields::ENTRIES;
+use header::fields::MINOR;
+use header::fields::RESERVED;
+use header::fields::number_at;
+ghost use mathlib.Core.Path.{_≡_};
+ghost use Rattle.header.specs.Fields.{holdsNumber};
+ghost use Rattle.reader.specs.Serve.{servedAt, placeAfter, stepped};
+
+// The bytes that are read, and the place in the table of the field that comes next.
+pub struct Reader<'a> {
+    pub bytes: &'a [u8],
+    pub at: usize,
+}
+
+// Whether the table has a number at a place.
+fn holds_number(place: usize) -> bool
+    ensures { λ r. ⌜ r ≡ holdsNumber place ⌝ }
+{
+    if ENTRIES < place {
+        return false;
+    }
+    if place < MINOR {
+        return false;
+    }
+    place != RESERVED
+}
+
+// The number in the field at a place; 0 where there is none.
+fn served(b: &[u8], place: usize) -> u32
+    ensures { λ r. ⌜ r ≡ servedAt (now (b .entry)) place ⌝ }
+{
+    if b.len() < consts::HEADER_LEN {
+        return 0;
+    }
+    if !holds_number(place) {
+        return 0;
+    }
+    number_at(b, place)
+}
+
+// The place behind a field.
+fn place_after(place: usize) -> usize
+    ensures { λ r. ⌜ r ≡ placeAfter place ⌝ }
+{
+    if ENTRIES < place {
+        return place;
+    }
+    place + 1
+}
+
+impl<'a> Reader<'a> {
+    // A reader of lent bytes, at a place in the table.
+    pub fn new(bytes: &'a [u8], at: usize) -> Reader<'a>
+        ensures { λ r. ⌜ (r .bytes ≡ bytes .entry) × (r .at ≡ at) ⌝ }
+    {
+        Reader { bytes, at }
+    }
+
+    // The number in the field at its place; 0 where there is none.
+    pub fn number(self) -> u32
+        ensures { λ n. ⌜ n ≡ servedAt (now (self .entry .bytes)) (self .entry .at) ⌝ }
+    {
+        served(self.bytes, self.at)
+    }
+
+    // The reader at the next place.
+    pub fn next(self) -> Reader<'a>
+        ensures { λ r. ⌜ r ≡ stepped (self .entry) ⌝ }
+    {
+        let at = place_after(self.at);
+        Reader {
+            bytes: self.bytes,
+            at,
+        }
+    }
+
+    // The number in the field at its place; the reader then stands at the next place.
+    pub fn read_number(&mut self) -> u32
+        ensures { λ n. ⌜ (n ≡ servedAt (now (now (self .entry) .bytes)) (now (self .entry) .at)) × (now (self .exit) ≡ stepped (now (self .entry))) ⌝ }
+    {
+        let at = self.at;
+        let number = served(self.bytes, at);
+        self.at = place_after(at);
+        number
+    }
+}
+
+// The number in a field of lent bytes, by the field's place in the table; 0 where there is none.
+pub fn number_of(b: &[u8], place: usize) -> u32
+    ensures { λ r. ⌜ r ≡ servedAt (now (b .entry)) place ⌝ }
+{
+    Reader::new(b, place).number()
+}
