@@ -21,8 +21,9 @@ use Rattle.fat.specs.Loaded.{ListsLoaded, Covers}
 use Rattle.judge.specs.Judge.{markedFat, forgivenFat, marksOf, noneDangles, fatRows}
 use Rattle.alloc.specs.Opening.{rawFat, judgedFat, openFat, tableRows}
 use Rattle.alloc.proofs.Opening.{lists-difats, lists-cover}
-use Rattle.agree.specs.Parts.{FatLent, TablesLent, listsSame, fatSame, pointsOnce, pointsSame, tablesSame}
-use Rattle.agree.proofs.Comparing.{same-of}
+use Rattle.points.specs.Parts.{pointsOnce, pointsSame}
+use Rattle.points.proofs.Testing.{same-of}
+use Rattle.agree.specs.Parts.{FatLent, TablesLent, listsSame, fatSame, tablesSame}
 use Rattle.agree.proofs.Listing.{refutes}
 use Rattle.agree.proofs.Judging.{Passed, rows-passed, passed-rows, same-fat, fat-forgiven, points-passed, passed-points}
 

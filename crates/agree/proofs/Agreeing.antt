@@ -11,7 +11,7 @@ use lib.ListN.{length}
 use Rattle.lists.specs.Lists.{both}
 use Rattle.lists.specs.Rows.{refusal}
 use Rattle.lists.proofs.Cases.{both-right, both-false-left, both-false-right}
-use Rattle.header.specs.Fields.{lengthOf, isStrict}
+use Rattle.header.specs.Versions.{lengthOf, isStrict}
 use Rattle.header.specs.Read.{headerOf}
 use Rattle.header.specs.declared.Header.{Header}
 use Rattle.header.specs.declared.Validation.{Validation}

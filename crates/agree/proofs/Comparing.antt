@@ -1,29 +1,25 @@
--- The laws of comparisons: flags that are kept, headers, and tables that hold a list and then zeros. Assumes nothing.
+-- The laws of comparisons: headers, and tables that hold a list and then zeros. Assumes nothing.
 use Prim.Native.Nat.{ℕ, _+_, _-_, _≤_, _<_}
 use mathlib.Core.Path.{_≡_, refl, sym, _∙_, ap}
 use mathlib.Core.Bool.{Bool, true, false, _&&_}
 use mathlib.Core.List.{List, _++_}
 use mathlib.Core.Logic.{_↔_}
 use native.Mathlib.Omega.{arith}
-use native.Mathlib.Numerals.{add-one}
 use borrow.Author.Tests.{eq-eqb, eqb-true}
 use lib.Dec.{eqb}
-use lib.ListN.{length, getD, take, drop, replicate, length-drop, length-replicate, getD-replicate, take-append-drop, length-append}
+use lib.ListN.{length, getD, take, drop, replicate, length-drop, length-replicate, getD-replicate, take-append-drop}
 use lib.Seq.{ext-getD, drop-at, take-all}
-use Rattle.lists.specs.Lists.{both, every, tab, sameList}
+use Rattle.lists.specs.Lists.{both, sameList}
 use Rattle.lists.proofs.Cases.{both-true, both-left, both-right, same-test, every-at, every-of}
-use Rattle.lists.proofs.Tab.{getD-tab, is-tab}
 use Rattle.lists.proofs.Splice.{sameList-true, sameList-refl}
-use Rattle.header.specs.Fields.{majorOf}
+use Rattle.header.specs.Versions.{majorOf}
 use Rattle.header.specs.declared.Version.{Version}
 use Rattle.header.specs.declared.Version.the-variants.{V3, V4}
 use Rattle.header.specs.declared.Header.{Header}
-use Rattle.consts.specs.Consts.{freeSector}
-use Rattle.judge.specs.Judge.{freesOf}
-use Rattle.judge.proofs.Judging.{frees-end-yes, frees-end-no}
 use Rattle.alloc.specs.Opening.{Tables}
 use Rattle.alloc.specs.Opened.{padded}
 use Rattle.alloc.proofs.Filled.{front-padded}
+use Rattle.points.proofs.Testing.{same-of}
 use Rattle.agree.specs.Agree.{sameFields, sameHeader, holds}
 use Rattle.agree.specs.Parts.{allZero, tailsZero}
 
@@ -31,27 +27,6 @@ use Rattle.agree.specs.Parts.{allZero, tailsZero}
 and-both : (a b : Bool) → (a && b) ≡ both a b
 and-both true b = refl
 and-both false b = refl
-
--- a loop that tests each number in turn and keeps what it finds: a turn
-pub flag-more : (f : ℕ → Bool) (j : ℕ) (flag t : Bool) → flag ≡ every j f → t ≡ f j → (flag && t) ≡ every (j + 1) f
-unfolding every
-flag-more f j flag t e h = rw (add-one j, e, h) (swapped (every j f) (f j))
-  where
-    swapped : (a b : Bool) → (a && b) ≡ both b a
-    swapped true true = refl
-    swapped true false = refl
-    swapped false true = refl
-    swapped false false = refl
-
--- two equal lists pass the test, and the test of a list and a table goes element by element
-pub same-of : (a b : List ℕ) → a ≡ b → sameList a b ≡ true
-same-of a b e = ap (sameList a) (sym e) ∙ sameList-refl a
-
-pub same-tab : (xs : List ℕ) (f : ℕ → ℕ) (n : ℕ) → length xs ≡ n → every n (λ i. eqb (getD xs i 0) (f i)) ≡ sameList xs (tab f n)
-same-tab xs f n e =
-    same-test (every n (λ i. eqb (getD xs i 0) (f i))) (sameList xs (tab f n))
-    (λ t. same-of xs (tab f n) (is-tab xs f n e (λ i h. eqb-true _ _ (every-at n (λ k. eqb (getD xs k 0) (f k)) t i h))))
-    (λ t. every-of n (λ k. eqb (getD xs k 0) (f k)) (λ i h. eq-eqb _ _ (ap (λ (l : List ℕ). getD l i 0) (sameList-true xs (tab f n) t) ∙ getD-tab f n i 0 h)))
 
 -- versions with one number are one
 major-one : (v w : Version) → majorOf v ≡ majorOf w → v ≡ w
@@ -154,10 +129,3 @@ pub tails-all : (n k d free : ℕ) (t : Tables) (a b c e f : Bool) → a ≡ all
 unfolding tailsZero
 tails-all n k d free t a b c e f p q u v w =
     and-both a _ ∙ ap (both a) (and-both b _ ∙ ap (both b) (and-both c _ ∙ ap (both c) (and-both e f))) ∙ rw (p, q, u, v, w)
-
--- one entry more, FREE or not
-pub count-yes : (fat : List ℕ) (i count next : ℕ) → getD fat i 0 ≡ freeSector → count ≡ length (freesOf i fat) → next ≡ count + 1 → next ≡ length (freesOf (i + 1) fat)
-count-yes fat i count next e h s = s ∙ sym (rw (frees-end-yes fat i e, length-append) (omega arith))
-
-pub count-no : (fat : List ℕ) (i count next : ℕ) → (getD fat i 0 ≡ freeSector → ⊥) → count ≡ length (freesOf i fat) → next ≡ count → next ≡ length (freesOf (i + 1) fat)
-count-no fat i count next d h s = s ∙ h ∙ sym (rw (frees-end-no fat i d))

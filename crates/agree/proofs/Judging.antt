@@ -21,9 +21,10 @@ use Rattle.judge.proofs.Judging.{pointed-by, pointer-of, forgiven-low, forgiven
 use Rattle.judge.proofs.Rows.{fat-rest}
 use Rattle.fat.specs.Loaded.{Covers}
 use Rattle.judge.proofs.Marking.{length-markedFat}
-use Rattle.agree.specs.Parts.{FatLent, listedMarked, fatSame, pointsOnce}
-use Rattle.agree.proofs.Comparing.{same-of}
-use Rattle.agree.proofs.Pointing.{Once, points-exactly}
+use Rattle.points.specs.Parts.{pointsOnce}
+use Rattle.points.proofs.Pointing.{Once, points-exactly}
+use Rattle.points.proofs.Testing.{same-of}
+use Rattle.agree.specs.Parts.{FatLent, listedMarked, fatSame}
 
 -- an entry of which nothing is wrong, seen from each side
 module _ (strict : Bool) (n : ℕ) (fat : List ℕ) (i : ℕ) (small : n ≤ maxRegular) where

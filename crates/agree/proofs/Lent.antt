@@ -19,9 +19,12 @@ use Rattle.judge.specs.Judge.{marksOf, freesOf}
 use Rattle.alloc.specs.Opening.{Tables, openFat, openTables, tableRows}
 use Rattle.alloc.specs.Opened.{Lent}
 use Rattle.alloc.proofs.Filled.{length-openFat, length-marks, length-fats, length-difats, counted-same}
-use Rattle.agree.specs.Agree.{holds, anyOrder, freesHeld, tablesHeld}
-use Rattle.agree.specs.Parts.{allZero, tailsZero, tablesSame, freesSame, TablesLent}
-use Rattle.agree.proofs.Comparing.{same-of, zeros-are, holds-front}
+use Rattle.points.specs.Frees.{anyOrder}
+use Rattle.points.specs.Parts.{freesSame}
+use Rattle.points.proofs.Testing.{same-of}
+use Rattle.agree.specs.Agree.{holds, freesHeld, tablesHeld}
+use Rattle.agree.specs.Parts.{allZero, tailsZero, tablesSame, TablesLent}
+use Rattle.agree.proofs.Comparing.{zeros-are, holds-front}
 use Rattle.agree.proofs.Listing.{refutes}
 use Rattle.agree.proofs.Accepting.{Fronts, fronts-exactly}
 

@@ -14,8 +14,8 @@ use Rattle.header.specs.declared.Header.{Header}
 use Rattle.fat.specs.Lists.{difatCount, difatAt, difatsOf, fatsOf, difatsIn, fatsIn, allBelow, different, ends, countsRight, chainRight, restFree, idsRight, fatsRight}
 use Rattle.fat.specs.Loaded.{ChainListed, Places, PlacesListed}
 use Rattle.fat.proofs.Listing.{by-counts, fats-few, difats-few, places-reach, places-few}
+use Rattle.points.proofs.Testing.{same-of}
 use Rattle.agree.specs.Parts.{ChainLent, PlacesLent, PlacesRoom, ListsLent, listsSame}
-use Rattle.agree.proofs.Comparing.{same-of}
 
 -- what holds where a test does decides the test
 pub refutes : (t : Bool) → (t ≡ true → ⊥) → false ≡ t

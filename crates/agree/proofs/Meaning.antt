@@ -12,7 +12,7 @@ use lib.Seq.{ext-getD, getD-drop}
 use Rattle.lists.specs.Rows.{refusal}
 use Rattle.lists.proofs.Cases.{below-or, same-or, both-true, both-left, both-right, every-at, every-of}
 use Rattle.lists.proofs.Splice.{sameList-true}
-use Rattle.header.specs.Fields.{lengthOf}
+use Rattle.header.specs.Versions.{lengthOf}
 use Rattle.header.specs.Read.{headerOf}
 use Rattle.header.specs.declared.Header.{Header}
 use Rattle.header.specs.declared.Validation.{Validation}
@@ -25,10 +25,12 @@ use Rattle.alloc.specs.Opening.{Tables, firstRows, openNo, openTables, openFat,
 use Rattle.alloc.specs.Opened.{padded, tablesLeft, Lent}
 use Rattle.alloc.proofs.Opens.{open-first, opens-lent}
 use Rattle.alloc.proofs.Filled.{front-padded, length-openFat, length-marks, length-fats, length-difats}
-use Rattle.agree.specs.Agree.{sameHeader, holds, occurs, timesFree, anyOrder, agreement}
-use Rattle.agree.specs.Agrees.{FreesOnce, Held, Agrees, Permuted}
-use Rattle.agree.proofs.Comparing.{header-exactly, same-of, padded-rest}
-use Rattle.agree.proofs.Freeing.{occurs-some, occurs-place, order-exactly}
+use Rattle.points.specs.Frees.{occurs, timesFree, anyOrder, FreesOnce}
+use Rattle.points.proofs.Freeing.{occurs-some, occurs-place, order-exactly}
+use Rattle.points.proofs.Testing.{same-of}
+use Rattle.agree.specs.Agree.{sameHeader, holds, agreement}
+use Rattle.agree.specs.Agrees.{Held, Agrees, Permuted}
+use Rattle.agree.proofs.Comparing.{header-exactly, padded-rest}
 use Rattle.agree.proofs.Lent.{Wholes, wholes-true, wholes-of, lent-counted}
 
 -- zeros past a count, place by place

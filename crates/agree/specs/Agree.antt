@@ -1,16 +1,16 @@
 -- Agreement of a state and its tables with an image (document 01, 19), as a test that computes. Assumes nothing.
-use Prim.Native.Nat.{ℕ, suc, _-_}
+use Prim.Native.Nat.{ℕ, _-_}
 use mathlib.Core.Bool.{Bool}
-use mathlib.Core.List.{List, [], _∷_}
+use mathlib.Core.List.{List}
 use lib.Dec.{eqb}
-use lib.ListN.{length, getD, take, drop, replicate}
-use Rattle.lists.specs.Lists.{choose, both, every, sameList}
-use Rattle.consts.specs.Consts.{freeSector}
-use Rattle.header.specs.Fields.{lengthOf, majorOf}
+use lib.ListN.{length, take, drop, replicate}
+use Rattle.lists.specs.Lists.{both, sameList}
+use Rattle.header.specs.Versions.{lengthOf, majorOf}
 use Rattle.header.specs.Read.{headerOf}
 use Rattle.header.specs.declared.Header.{Header}
 use Rattle.header.specs.declared.Validation.{Validation}
-use Rattle.fat.specs.Lists.{sectorsIn, allBelow}
+use Rattle.fat.specs.Lists.{sectorsIn}
+use Rattle.points.specs.Frees.{anyOrder}
 use Rattle.alloc.specs.Opening.{Tables, openNo, openTables, shortest}
 use Rattle.alloc.specs.Opened.{padded}
 
@@ -35,20 +35,6 @@ sameHeader a b = both (sameFields a b) (sameList (a .list) (b .list))
 unfoldable pub holds : List ℕ → List ℕ → Bool
 unfolding padded
 holds t xs = sameList t (padded xs (length t))
-
--- how often x stands in a list
-unfoldable pub occurs : ℕ → List ℕ → ℕ
-occurs x [] = 0
-occurs x (y ∷ ys) = choose (eqb x y) (suc (occurs x ys)) (occurs x ys)
-
--- document 01: how often sector i stands in the free list: once where its entry is FREE, else never
-unfoldable pub timesFree : List ℕ → ℕ → ℕ
-timesFree fat i = choose (eqb (getD fat i 0) freeSector) 1 0
-
--- document 01, 19, "the free list in any order": each of n sectors as often as it must, and no other number
-unfoldable pub anyOrder : ℕ → List ℕ → List ℕ → Bool
-unfolding allBelow occurs timesFree
-anyOrder n fat frees = both (allBelow n frees) (every n (λ i. eqb (occurs i frees) (timesFree fat i)))
 
 -- document 01: a lent free list holds the FREE sectors of n in its first places, as many as are said, and then zeros
 unfoldable pub freesHeld : ℕ → List ℕ → ℕ → List ℕ → Bool

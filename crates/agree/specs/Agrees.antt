@@ -3,22 +3,15 @@ use Prim.Native.Nat.{ℕ, _≤_, _<_}
 use mathlib.Core.Path.{_≡_}
 use mathlib.Core.List.{List}
 use lib.ListN.{length, getD, take}
-use Rattle.consts.specs.Consts.{freeSector}
-use Rattle.header.specs.Fields.{lengthOf}
+use Rattle.header.specs.Versions.{lengthOf}
 use Rattle.header.specs.Read.{headerOf}
 use Rattle.header.specs.declared.Header.{Header}
 use Rattle.header.specs.declared.Validation.{Validation}
 use Rattle.fat.specs.Lists.{sectorsIn}
+use Rattle.points.specs.Frees.{occurs}
+pub use Rattle.points.specs.Frees.{FreesOnce}
 use Rattle.alloc.specs.Opening.{Tables, openNo, openTables, shortest}
 use Rattle.alloc.specs.Opened.{padded}
-use Rattle.agree.specs.Agree.{occurs}
-
--- document 01: a list holds the FREE sectors below n, each in one place, and no other number
-pub record FreesOnce (n : ℕ) (fat frees : List ℕ) : Type 0 where
-  pub below : (j : ℕ) → j < length frees → getD frees j 0 < n
-  pub free : (j : ℕ) → j < length frees → getD fat (getD frees j 0) 0 ≡ freeSector
-  pub once : (i j : ℕ) → i < length frees → j < length frees → getD frees i 0 ≡ getD frees j 0 → i ≡ j
-  pub all : (i : ℕ) → i < n → getD fat i 0 ≡ freeSector → (j : ℕ) × (j < length frees) × (getD frees j 0 ≡ i)
 
 -- document 01, 19: lent tables t hold the tables o of an image of n sectors, zeros past their counts, the free list in any order
 pub record Held (n : ℕ) (o : Tables) (free : ℕ) (t : Tables) : Type 0 where

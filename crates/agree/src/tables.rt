@@ -1,13 +1,13 @@
 // Whether lent tables are those of an image that opens (document 01, refusals 12 to 18 and 19).
 use crate::alike::same_numbers;
 use crate::listed::same_lists;
-use crate::points::same_points;
 use fat::load::load_fat;
 use fat::load::tail_free;
 use fat::places::index;
 use header::Header;
 use judge::judged::unmarked;
 use judge::marks::set_listed;
+use points::points::same_points;
 ghost use mathlib.Core.Path.{_≡_};
 ghost use lib.ListN.{length};
 ghost use mathlib.Core.Bool.{not};

@@ -13,7 +13,7 @@ use Rattle.lists.specs.Lists.{either}
 use Rattle.lists.specs.Rows.{row, refusal, distinct, fresh}
 use Rattle.lists.proofs.Cases.{same-or, either-right, either-none}
 use Rattle.lists.proofs.Rows.{stop, pass, append-given, append-none, given-none}
-use Rattle.header.specs.Fields.{lengthOf}
+use Rattle.header.specs.Versions.{lengthOf}
 use Rattle.header.specs.Read.{headerRows, readRows, readNo, headerOf, ReadSays}
 use Rattle.header.specs.declared.Read.{Read}
 use Rattle.header.specs.declared.Version.{Version}

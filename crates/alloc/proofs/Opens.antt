@@ -10,7 +10,7 @@ use lib.ListN.{length, replicate}
 use Rattle.lists.specs.Rows.{refusal, distinct, fresh, between}
 use Rattle.lists.proofs.Cases.{same-or}
 use Rattle.lists.proofs.Rows.{append-given, append-none, given-between}
-use Rattle.header.specs.Fields.{lengthOf, isStrict}
+use Rattle.header.specs.Versions.{lengthOf, isStrict}
 use Rattle.header.specs.Read.{none, headerRows, headerOf}
 use Rattle.header.specs.declared.Header.{Header}
 use Rattle.header.specs.declared.Validation.{Validation}

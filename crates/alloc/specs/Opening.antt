@@ -6,7 +6,7 @@ use lib.Dec.{eqb, ltb, leb}
 use lib.ListN.{length, replicate}
 use Rattle.lists.specs.Lists.{choose, either}
 use Rattle.lists.specs.Rows.{Row, row, refusal}
-use Rattle.header.specs.Fields.{lengthOf, isStrict}
+use Rattle.header.specs.Versions.{lengthOf, isStrict}
 use Rattle.header.specs.Read.{headerRows, headerOf}
 use Rattle.header.specs.declared.Validation.{Validation}
 use Rattle.header.specs.declared.Header.{Header}

@@ -5,7 +5,7 @@ use header::Version;
 ghost use mathlib.Core.Path.{_≡_};
 ghost use Prim.Native.Nat.{_≤_};
 ghost use lib.ListN.{length};
-ghost use Rattle.header.specs.Fields.{lengthOf};
+ghost use Rattle.header.specs.Versions.{lengthOf};
 ghost use Rattle.fat.specs.Lists.{roomOf};
 ghost use Rattle.alloc.specs.Early.{EarlySays};
 

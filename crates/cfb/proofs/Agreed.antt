@@ -12,7 +12,7 @@ use Rattle.lists.specs.Rows.{refusal, distinct, fresh}
 use Rattle.lists.proofs.Rows.{given-none, append-accepts}
 use Rattle.lists.proofs.Tab.{length-tab}
 use Rattle.consts.specs.Consts.{maxRegular}
-use Rattle.header.specs.Fields.{lengthOf, isStrict}
+use Rattle.header.specs.Versions.{lengthOf, isStrict}
 use Rattle.header.specs.Read.{headerRows, headerOf}
 use Rattle.header.specs.declared.Header.{Header}
 use Rattle.header.specs.declared.Validation.{Validation}

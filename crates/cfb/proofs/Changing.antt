@@ -18,8 +18,8 @@ use Rattle.alloc.specs.Opened.{padded}
 use Rattle.chain.specs.declared.Walked.{Walked}
 use Rattle.chain.specs.declared.Walked.the-variants.{Listed, Refused}
 use Rattle.disk.specs.Needed.{resizeMore, writeMore}
-use Rattle.moves.specs.Hand.{Chain}
-use Rattle.moves.specs.Fits.{FitsChain}
+use Rattle.hand.specs.Hand.{Chain}
+use Rattle.hand.specs.Fits.{FitsChain}
 use Rattle.moves.proofs.Changing.{chain-room}
 use Rattle.moves.specs.Change.{resized, written, FitsResize, FitsWrite}
 use Rattle.moves.specs.declared.change.Changed.{Changed}

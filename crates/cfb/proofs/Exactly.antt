@@ -12,7 +12,7 @@ use Rattle.lists.specs.Rows.{Row, row, testOf, ascend, Explained, Judged}
 use Rattle.lists.proofs.Cases.{both-left, both-right, both-true}
 use Rattle.lists.proofs.Exactly.{_▸_, exactly, accepted, explained-by, explained-append, tested-append}
 use Rattle.consts.specs.Consts.{endOfChain}
-use Rattle.header.specs.Fields.{isStrict}
+use Rattle.header.specs.Versions.{isStrict}
 use Rattle.header.specs.declared.Validation.{Validation}
 use Rattle.header.specs.declared.Validation.the-variants.{Permissive, Strict}
 use Rattle.judge.specs.Judge.{pointed}

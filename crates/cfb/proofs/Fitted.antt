@@ -7,7 +7,7 @@ use native.Mathlib.Nat.{mul-le-mul-right, div-mul-le-self, le-div-iff-mul-le}
 use lib.ListN.{length, getD, take}
 use lib.Seq.{getD-take, length-take-le}
 use Rattle.lists.proofs.Tab.{length-tab}
-use Rattle.header.specs.Fields.{lengthOf}
+use Rattle.header.specs.Versions.{lengthOf}
 use Rattle.header.specs.Read.{headerOf}
 use Rattle.header.specs.declared.Version.{Version}
 use Rattle.header.specs.declared.Version.the-variants.{V3, V4}
@@ -22,8 +22,8 @@ use Rattle.alloc.specs.Opening.{Tables, openFat, openTables, openNo, shortest}
 use Rattle.alloc.specs.Opened.{padded}
 use Rattle.agree.specs.Agrees.{FreesOnce, Held, Agrees}
 use Rattle.agree.proofs.Agreeing.{holds-room}
-use Rattle.moves.specs.Hand.{Hand}
-use Rattle.moves.specs.Fits.{FitsHand}
+use Rattle.hand.specs.Hand.{Hand}
+use Rattle.hand.specs.Fits.{FitsHand}
 use Rattle.cfb.proofs.Agreed.{held, fats-open, difats-open, agreed-front}
 use Rattle.cfb.proofs.Refusing.{padded-front}
 

@@ -15,7 +15,7 @@ use Rattle.lists.proofs.Cases.{below-or, same-or, true-or}
 use Rattle.lists.proofs.Pigeon.{pigeon}
 use Rattle.lists.proofs.Rows.{given-none}
 use Rattle.consts.specs.Consts.{endOfChain, freeSector}
-use Rattle.header.specs.Fields.{isStrict}
+use Rattle.header.specs.Versions.{isStrict}
 use Rattle.fat.specs.Lists.{roomOf}
 use Rattle.alloc.specs.Opening.{Tables, shortest}
 use Rattle.alloc.specs.Opened.{padded}
@@ -23,7 +23,7 @@ use Rattle.agree.specs.Agrees.{FreesOnce}
 use Rattle.agree.proofs.Meaning.{agrees-exactly}
 use Rattle.chain.specs.Steps.{Sectors, Linked}
 use Rattle.chain.proofs.Chains.{walk-sectors, lists-exactly}
-use Rattle.moves.specs.Fits.{FitsHand, FitsChain}
+use Rattle.hand.specs.Fits.{FitsHand, FitsChain}
 use Rattle.moves.specs.Change.{Apart}
 use Rattle.moves.proofs.Changing.{chain-bytes-small}
 use Rattle.cfb.specs.Calls.{stateLen, agreedRows, walkRows, chainNo, chainIds}

@@ -15,7 +15,7 @@ use Rattle.lists.proofs.Cases.{same-or, below-or}
 use Rattle.lists.proofs.Rows.{stop, pass, append-given, append-none}
 use Rattle.lists.proofs.Tab.{length-tab}
 use Rattle.consts.specs.Consts.{maxRegular, endOfChain}
-use Rattle.header.specs.Fields.{isStrict}
+use Rattle.header.specs.Versions.{isStrict}
 use Rattle.fat.specs.Lists.{roomOf}
 use Rattle.judge.specs.Judge.{pointed, marksOf}
 use Rattle.judge.proofs.Judging.{mark-at, markOf}

@@ -7,7 +7,7 @@ use lib.Dec.{eqb, ltb}
 use lib.ListN.{length, take, replicate}
 use Rattle.lists.specs.Lists.{choose}
 use Rattle.lists.specs.Rows.{Row, row, refusal}
-use Rattle.header.specs.Fields.{lengthOf}
+use Rattle.header.specs.Versions.{lengthOf}
 use Rattle.fat.specs.Lists.{roomOf}
 use Rattle.alloc.specs.Opening.{Tables, shortest}
 use Rattle.alloc.specs.Opened.{padded}

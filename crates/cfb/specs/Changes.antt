@@ -8,7 +8,7 @@ use lib.ListN.{length, getD, take, replicate}
 use Rattle.lists.specs.Lists.{choose, both}
 use Rattle.lists.specs.Rows.{Row, row, refusal}
 use Rattle.consts.specs.Consts.{endOfChain}
-use Rattle.header.specs.Fields.{isStrict}
+use Rattle.header.specs.Versions.{isStrict}
 use Rattle.header.specs.Read.{headerOf}
 use Rattle.fat.specs.Lists.{roomOf}
 use Rattle.judge.specs.Judge.{pointed}
@@ -16,7 +16,7 @@ use Rattle.alloc.specs.Opening.{Tables}
 use Rattle.alloc.specs.Opened.{padded}
 use Rattle.disk.specs.Disk.{countAfter}
 use Rattle.disk.specs.Needed.{resizeMore, writeMore}
-use Rattle.moves.specs.Hand.{Chain}
+use Rattle.hand.specs.Hand.{Chain}
 use Rattle.moves.specs.Change.{resized, written}
 use Rattle.chain.specs.declared.Walked.{Walked}
 use Rattle.cfb.specs.Calls.{stateLen, walked, agreedRows, walkRows, chainIds, idsLeft, toldBy, told}

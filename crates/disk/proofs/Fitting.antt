@@ -12,7 +12,7 @@ use Rattle.lists.specs.Lists.{choose}
 use Rattle.lists.proofs.Cases.{below-or, same-or, true-or}
 use Rattle.words.specs.Words.{digits}
 use Rattle.consts.specs.Consts.{difatSector, fatSector, endOfChain}
-use Rattle.header.specs.Fields.{fatsAt, difatsAt, entriesAt, offsetOf}
+use Rattle.fields.specs.Fields.{fatsAt, difatsAt, entriesAt, offsetOf}
 use Rattle.sectors.specs.Sectors.{startOf, perSector}
 use Rattle.sectors.specs.Init.{initBytes}
 use Rattle.sectors.specs.declared.init.SectorInit.the-variants.{Zero, Fat, Difat}

@@ -13,7 +13,7 @@ use lib.Seq.{getD-set-same}
 use Rattle.lists.specs.Lists.{splice}
 use Rattle.words.specs.Words.{digits}
 use Rattle.consts.specs.Consts.{difatSector, fatSector, endOfChain}
-use Rattle.header.specs.Fields.{fatsAt, difatsAt, entriesAt, offsetOf, widthOf}
+use Rattle.fields.specs.Fields.{fatsAt, difatsAt, entriesAt, offsetOf, widthOf}
 use Rattle.sectors.specs.Sectors.{startOf, perSector}
 use Rattle.sectors.specs.Init.{initBytes}
 use Rattle.sectors.specs.declared.init.SectorInit.the-variants.{Zero, Fat, Difat}

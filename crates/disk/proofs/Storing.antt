@@ -9,7 +9,7 @@ use borrow.Author.Tests.{eq-eqb, ne-eqb}
 use lib.ListN.{getD}
 use Rattle.lists.specs.Lists.{splice}
 use Rattle.words.specs.Words.{digits}
-use Rattle.header.specs.Fields.{difatAt, offsetOf, widthOf}
+use Rattle.fields.specs.Fields.{difatAt, offsetOf, widthOf}
 use Rattle.sectors.specs.Sectors.{startOf, perSector}
 use Rattle.sectors.proofs.Laws.{scaled}
 use Rattle.disk.specs.Disk.{entryPlace, linkPlace}

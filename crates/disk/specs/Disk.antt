@@ -7,7 +7,7 @@ use lib.ListN.{getD, set}
 use Rattle.lists.specs.Lists.{choose, both, splice}
 use Rattle.words.specs.Words.{digits}
 use Rattle.consts.specs.Consts.{difatSector, fatSector, endOfChain}
-use Rattle.header.specs.Fields.{fatsAt, difatAt, difatsAt, entriesAt, offsetOf}
+use Rattle.fields.specs.Fields.{fatsAt, difatAt, difatsAt, entriesAt, offsetOf}
 use Rattle.sectors.specs.Sectors.{startOf, perSector}
 use Rattle.sectors.specs.Init.{initBytes}
 use Rattle.sectors.specs.declared.init.SectorInit.the-variants.{Zero, Fat, Difat}

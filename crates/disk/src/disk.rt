@@ -1,10 +1,10 @@
 // The FAT set and grown: each change goes to the lent tables and to the bytes of the image at once.
 use fat::listed::ceil;
-use header::entries::put_place;
-use header::fields::DIFAT;
-use header::fields::DIFATS;
-use header::fields::FATS;
-use header::fields::put_number;
+use fields::DIFAT;
+use fields::DIFATS;
+use fields::FATS;
+use fields::entries::put_place;
+use fields::put_number;
 use sectors::init::SectorInit;
 use sectors::init::init_at;
 use sectors::init::put_at;

@@ -21,8 +21,8 @@ use Rattle.chain.proofs.Zeroed.{tail-none, tail-some, zero-chain, zero-apart, z
 use Rattle.disk.specs.Needed.{resizeMore, writeMore}
 use Rattle.disk.proofs.Keeping.{sectors-inside}
 use Rattle.disk.proofs.Needing.{ceil-whole, ceil-part, ceil-within}
-use Rattle.moves.specs.Hand.{Chain, extend}
-use Rattle.moves.specs.Fits.{FitsChain}
+use Rattle.hand.specs.Hand.{Chain, extend}
+use Rattle.hand.specs.Fits.{FitsChain}
 use Rattle.moves.specs.Change.{shrink, withImage, idsOf, resized, written, FitsShrink, FitsResize, FitsWrite}
 use Rattle.moves.proofs.Extending.{extend-count, extend-fits}
 use Rattle.moves.proofs.Shrinking.{shrink-fits, shrink-ids, shrink-count, shrink-long}

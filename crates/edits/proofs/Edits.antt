@@ -8,15 +8,15 @@ use native.Mathlib.Nat.{add-mul, one-mul}
 use lib.ListN.{length, getD, take, replicate}
 use lib.Seq.{take-all, length-take-le}
 use Rattle.lists.specs.Lists.{splice}
-use Rattle.header.specs.Fields.{fatsAt, difatAt, offsetOf, widthOf}
+use Rattle.fields.specs.Fields.{fatsAt, difatAt, offsetOf, widthOf}
 use Rattle.sectors.specs.Sectors.{startOf, sectorOf}
 use Rattle.fat.specs.Lists.{ceil}
 use Rattle.alloc.specs.Opened.{padded}
 use Rattle.chain.specs.Bytes.{chainBytes}
 use Rattle.chain.proofs.Apart.{sector-before, sector-other}
 use Rattle.disk.specs.Needed.{resizeMore, writeMore}
-use Rattle.moves.specs.Hand.{Chain, extend}
-use Rattle.moves.specs.Fits.{FitsChain, FitsMore}
+use Rattle.hand.specs.Hand.{Chain, extend}
+use Rattle.hand.specs.Fits.{FitsChain, FitsMore}
 use Rattle.moves.specs.Change.{shrink, withImage, idsOf, resized, written, FitsShrink, FitsResize, FitsWrite}
 use Rattle.moves.proofs.Extending.{extend-count, extend-fits, extend-long}
 use Rattle.moves.proofs.Shrinking.{shrink-ids, shrink-long}

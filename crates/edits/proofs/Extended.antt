@@ -14,11 +14,11 @@ use Rattle.sectors.specs.Sectors.{startOf, sectorOf}
 use Rattle.chain.specs.Bytes.{chainBytes}
 use Rattle.chain.proofs.Apart.{sector-other}
 use Rattle.disk.proofs.Keeping.{sectors-inside}
-use Rattle.moves.specs.Hand.{Chain, takenId, extendOne, extend}
-use Rattle.moves.specs.Fits.{FitsMore}
+use Rattle.hand.specs.Hand.{Chain, takenId, extendOne, extend}
+use Rattle.hand.specs.Fits.{FitsMore}
 use Rattle.moves.specs.Change.{idsOf}
-use Rattle.moves.proofs.Taking.{id-new, id-last, take-sectors-grow, taken-below}
-use Rattle.moves.proofs.Linking.{one-count, one-free, one-sectors, one-fits, one-long, more-place, more-room}
+use Rattle.hand.proofs.Taking.{id-new, id-last, take-sectors-grow, taken-below}
+use Rattle.hand.proofs.Linking.{one-count, one-free, one-sectors, one-fits, one-long, more-place, more-room}
 use Rattle.moves.proofs.Extending.{extend-none, extend-more}
 use Rattle.moves.proofs.Changing.{chain-listed, chain-id}
 use Rattle.moves.proofs.Staying.{ready-least, taken-other, one-ids-at, one-ids-last, one-frees-at}

@@ -6,8 +6,8 @@ use native.Mathlib.Omega.{arith}
 use lib.ListN.{length, getD, set, length-set}
 use lib.Seq.{getD-set-same, getD-set-other}
 use Rattle.disk.specs.Disk.{setFat}
-use Rattle.moves.specs.Hand.{Hand, point, freeSectorOf, freeRun}
-use Rattle.moves.proofs.Freeing.{free-none, free-more, free-one-count}
+use Rattle.hand.specs.Hand.{Hand, point, freeSectorOf, freeRun}
+use Rattle.hand.proofs.Freeing.{free-none, free-more, free-one-count}
 use Rattle.edits.proofs.Growing.{SameLists}
 
 -- one sector freed

@@ -16,10 +16,10 @@ use Rattle.disk.specs.Disk.{Disk, store, setFat, pushFat, listFat, listDifat, a
 use Rattle.disk.specs.Fits.{FitsFat, FitsNew}
 use Rattle.disk.proofs.Counting.{fat-full, difat-none, difat-suc, needs-full, needs-not, needs-near, after-needs, after-not}
 use Rattle.disk.proofs.Fitting.{append-sectors, ready-full, ready-part, new-sectors, new-full, count-full, count-part, full-many, full-place, reused-sectors}
-use Rattle.moves.specs.Hand.{Hand, Chain, point, takenId, takeSector, linked, extendOne}
-use Rattle.moves.specs.Fits.{FitsHand, FitsMore}
-use Rattle.moves.proofs.Taking.{take-none, take-one, id-new, id-last}
-use Rattle.moves.proofs.Linking.{linked-none, linked-last, more-room}
+use Rattle.hand.specs.Hand.{Hand, Chain, point, takenId, takeSector, linked, extendOne}
+use Rattle.hand.specs.Fits.{FitsHand, FitsMore}
+use Rattle.hand.proofs.Taking.{take-none, take-one, id-new, id-last}
+use Rattle.hand.proofs.Linking.{linked-none, linked-last, more-room}
 use Rattle.edits.specs.Order.{addedFat, addedDifat}
 use Rattle.edits.specs.Roles.{fatsHeld, difatsHeld}
 use Rattle.edits.proofs.Listed.{Listed, listed-same, listed-more}
@@ -74,7 +74,7 @@ grown-none S d k j fats difats id f g hk hj h =
     }
 
 -- a place of the DIFAT leaves the FAT's list, and the DIFAT's too where no DIFAT sector is needed
-hold-fats : (S p : ℕ) (d : Disk) → holdPlace S d p .fats ≡ d .fats
+pub hold-fats : (S p : ℕ) (d : Disk) → holdPlace S d p .fats ≡ d .fats
 unfolding holdPlace appendDifat store pushFat listDifat
 hold-fats S p d = ⊎-elim (λ (t : needsDifat S p ≡ true). rw t refl) (λ (t : needsDifat S p ≡ false). rw t refl) (true-or (needsDifat S p))
 

@@ -14,7 +14,7 @@ use Rattle.chain.specs.Bytes.{chainBytes, Lies}
 use Rattle.chain.proofs.Apart.{sector-other}
 use Rattle.chain.proofs.Bytes.{length-chain}
 use Rattle.disk.specs.Disk.{Disk}
-use Rattle.moves.specs.Hand.{Chain}
+use Rattle.hand.specs.Hand.{Chain}
 use Rattle.edits.specs.Roles.{fatsHeld, difatsHeld}
 use Rattle.edits.specs.Untouched.{Aside, Untouched, Other}
 

@@ -11,11 +11,11 @@ use Rattle.lists.proofs.Cases.{below-or, same-or}
 use Rattle.consts.specs.Consts.{endOfChain}
 use Rattle.disk.specs.Disk.{oneMore, countAfter}
 use Rattle.disk.proofs.Fitting.{ready-sectors, count-more, count-none}
-use Rattle.moves.specs.Hand.{Hand, Chain, takenId, takeSector, extendOne, extend, freeRun}
-use Rattle.moves.specs.Fits.{FitsMore}
+use Rattle.hand.specs.Hand.{Hand, Chain, takenId, takeSector, extendOne, extend, freeRun}
+use Rattle.hand.specs.Fits.{FitsMore}
 use Rattle.moves.specs.Change.{cut, shrink, FitsShrink}
-use Rattle.moves.proofs.Taking.{take-none, take-one, id-new, id-last}
-use Rattle.moves.proofs.Linking.{one-count, one-free, one-sectors-new, one-sectors-same, one-fits, more-place}
+use Rattle.hand.proofs.Taking.{take-none, take-one, id-new, id-last}
+use Rattle.hand.proofs.Linking.{one-count, one-free, one-sectors-new, one-sectors-same, one-fits, more-place}
 use Rattle.moves.proofs.Extending.{extend-none, extend-more}
 use Rattle.moves.proofs.Shrinking.{shrink-none, shrink-some, cut-fits, cut-counts}
 use Rattle.moves.proofs.Staying.{linked-frees, one-frees-at, one-ids-at, one-ids-last}

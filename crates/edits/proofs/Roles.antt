@@ -9,14 +9,14 @@ use Rattle.lists.proofs.Cases.{below-or, same-or}
 use Rattle.consts.specs.Consts.{endOfChain}
 use Rattle.fat.specs.Lists.{ceil, fatCount, difatCount}
 use Rattle.disk.specs.Needed.{resizeMore, writeMore}
-use Rattle.moves.specs.Hand.{Hand, Chain, point, takenId, takeSector, extendOne, extend, freeSectorOf, freeRun}
-use Rattle.moves.specs.Fits.{FitsChain, FitsMore}
+use Rattle.hand.specs.Hand.{Hand, Chain, point, takenId, takeSector, extendOne, extend, freeSectorOf, freeRun}
+use Rattle.hand.specs.Fits.{FitsChain, FitsMore}
 use Rattle.moves.specs.Change.{cut, shrink, withImage, resized, written, Apart, FitsShrink, FitsResize, FitsWrite}
-use Rattle.moves.proofs.Pointing.{point-fits, point-counts}
-use Rattle.moves.proofs.Taking.{id-new, id-last, take-free, take-sectors-grow}
-use Rattle.moves.proofs.Linking.{one-free, one-fits, more-place, more-room, more-taken}
+use Rattle.hand.proofs.Pointing.{point-fits, point-counts}
+use Rattle.hand.proofs.Taking.{id-new, id-last, take-free, take-sectors-grow}
+use Rattle.hand.proofs.Linking.{one-free, one-fits, more-place, more-room, more-taken}
 use Rattle.moves.proofs.Extending.{extend-none, extend-more}
-use Rattle.moves.proofs.Freeing.{free-none, free-more, free-one-count, chain-freed}
+use Rattle.hand.proofs.Freeing.{free-none, free-more, free-one-count, chain-freed}
 use Rattle.moves.proofs.Shrinking.{shrink-none, shrink-some, shrink-fits, shrink-count, shrink-free, shrink-ids}
 use Rattle.moves.proofs.Staying.{ready-least, take-frees-at, one-frees-at, one-apart}
 use Rattle.moves.proofs.Changing.{resized-more, resized-fewer, resize-shrink, resized-fits, written-fits}

@@ -13,10 +13,10 @@ use Rattle.chain.specs.Bytes.{chainBytes, Lies}
 use Rattle.chain.proofs.Apart.{sector-other}
 use Rattle.disk.specs.Disk.{Disk}
 use Rattle.disk.proofs.Keeping.{sectors-inside}
-use Rattle.moves.specs.Hand.{Hand, Chain, freeSectorOf, freeRun}
-use Rattle.moves.specs.Fits.{FitsHand, FitsFrees}
+use Rattle.hand.specs.Hand.{Hand, Chain, freeSectorOf, freeRun}
+use Rattle.hand.specs.Fits.{FitsHand, FitsFrees}
 use Rattle.moves.specs.Change.{cut, shrink, idsOf, FitsShrink}
-use Rattle.moves.proofs.Freeing.{free-none, free-more, frees-more}
+use Rattle.hand.proofs.Freeing.{free-none, free-more, frees-more}
 use Rattle.moves.proofs.Shrinking.{shrink-none, shrink-some, shrink-last, shrink-frees, shrink-count, shrink-ids, shrink-idsOf, shrink-fits, shrink-long, shrink-place}
 use Rattle.moves.proofs.Changing.{chain-lies}
 use Rattle.edits.specs.Roles.{Roles}

@@ -15,7 +15,7 @@ use Rattle.lists.proofs.Splice.{splice-below, splice-above}
 use Rattle.words.specs.Words.{digits}
 use Rattle.words.proofs.Laws.{length-digits}
 use Rattle.consts.specs.Consts.{difatSector}
-use Rattle.header.specs.Fields.{difatAt, difatsAt, entriesAt, offsetOf}
+use Rattle.fields.specs.Fields.{difatAt, difatsAt, entriesAt, offsetOf}
 use Rattle.sectors.specs.Sectors.{startOf, perSector}
 use Rattle.sectors.specs.Init.{initBytes}
 use Rattle.sectors.specs.declared.init.SectorInit.{SectorInit}

@@ -13,7 +13,7 @@ use Rattle.lists.specs.Lists.{splice}
 use Rattle.lists.proofs.Cases.{same-or, true-or}
 use Rattle.lists.proofs.Splice.{splice-inside}
 use Rattle.consts.specs.Consts.{fatSector, endOfChain}
-use Rattle.header.specs.Fields.{fatsAt, offsetOf}
+use Rattle.fields.specs.Fields.{fatsAt, offsetOf}
 use Rattle.sectors.specs.Sectors.{startOf, perSector}
 use Rattle.sectors.specs.Init.{initBytes}
 use Rattle.sectors.specs.declared.init.SectorInit.the-variants.{Zero, Fat}
@@ -24,10 +24,10 @@ use Rattle.disk.specs.Fits.{FitsWhole, FitsFat, FitsNew}
 use Rattle.disk.proofs.Counting.{fat-full, difat-suc}
 use Rattle.disk.proofs.Keeping.{header-inside, sectors-inside, push-kept, set-kept}
 use Rattle.disk.proofs.Fitting.{fatNew, fatMarked, entry-sector, full-many, full-fits, full-room, full-place, marked-same, marked-room, new-full, ready-full, ready-part, ready-kept, ready-has, ready-room, count-full, count-part, new-sectors, reused-sectors}
-use Rattle.moves.specs.Hand.{Hand, Chain, point, takenId, takeSector, linked, extendOne}
-use Rattle.moves.specs.Fits.{FitsHand, FitsMore}
-use Rattle.moves.proofs.Taking.{take-none, take-one, id-new, id-last}
-use Rattle.moves.proofs.Linking.{linked-none, linked-last, more-room, more-last, more-taken}
+use Rattle.hand.specs.Hand.{Hand, Chain, point, takenId, takeSector, linked, extendOne}
+use Rattle.hand.specs.Fits.{FitsHand, FitsMore}
+use Rattle.hand.proofs.Taking.{take-none, take-one, id-new, id-last}
+use Rattle.hand.proofs.Linking.{linked-none, linked-last, more-room, more-last, more-taken}
 use Rattle.edits.specs.Untouched.{Beside, Spared, Aside}
 use Rattle.edits.specs.Roles.{fatsHeld, difatsHeld}
 use Rattle.edits.proofs.Listed.{listed-stays}

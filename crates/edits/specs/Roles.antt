@@ -6,8 +6,8 @@ use mathlib.Core.Logic.{_≢_}
 use lib.ListN.{getD}
 use Rattle.fat.specs.Lists.{fatCount, difatCount}
 use Rattle.disk.specs.Disk.{Disk}
-use Rattle.moves.specs.Hand.{Chain}
-use Rattle.moves.specs.Fits.{FitsChain}
+use Rattle.hand.specs.Hand.{Chain}
+use Rattle.hand.specs.Fits.{FitsChain}
 use Rattle.moves.specs.Change.{Apart}
 
 -- document 01, k: how many FAT sectors a disk has

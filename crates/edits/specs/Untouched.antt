@@ -3,10 +3,10 @@ use Prim.Native.Nat.{ℕ, _+_, _≤_, _<_}
 use mathlib.Core.List.{List}
 use mathlib.Core.Logic.{_⊎_, _≢_}
 use lib.ListN.{length, getD}
-use Rattle.header.specs.Fields.{fatsAt, difatAt, offsetOf, widthOf}
+use Rattle.fields.specs.Fields.{fatsAt, difatAt, offsetOf, widthOf}
 use Rattle.sectors.specs.Sectors.{startOf}
 use Rattle.disk.specs.Disk.{Disk}
-use Rattle.moves.specs.Hand.{Chain}
+use Rattle.hand.specs.Hand.{Chain}
 use Rattle.edits.specs.Roles.{fatsHeld, difatsHeld}
 
 -- byte b does not stand in sector i

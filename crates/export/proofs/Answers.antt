@@ -10,7 +10,7 @@ use lib.Dec.{eqb}
 use lib.ListN.{length, getD}
 use Rattle.lists.specs.Lists.{choose, both, splice}
 use Rattle.lists.proofs.Cases.{same-or}
-use Rattle.header.specs.Fields.{numberedOf, versionOf}
+use Rattle.header.specs.Versions.{numberedOf, versionOf}
 use Rattle.header.specs.Read.{unknown, readNumber, readNo, ReadSays}
 use Rattle.header.specs.Write.{writeNumber, writeNo, headerBytes, WriteSays}
 use Rattle.header.specs.declared.Version.{Version}

@@ -7,7 +7,7 @@ use lib.Dec.{eqb}
 use lib.ListN.{length, replicate}
 use Rattle.lists.specs.Lists.{choose, Below}
 use Rattle.alloc.specs.Opening.{Tables}
-use Rattle.moves.specs.Hand.{Chain}
+use Rattle.hand.specs.Hand.{Chain}
 use Rattle.cfb.specs.Changes.{stateFrom, tablesIn, startIn, Changes, ChainResizes, ChainWrites}
 use Rattle.cfb.specs.declared.State.{State}
 use Rattle.cfb.specs.declared.Called.{Called}

@@ -239,15 +239,19 @@ pub extern "C" fn rasuvelk_free_chain(
 ) -> u32
     ensures { λ r. ⌜ ResizeChainGives (now (state .entry)) (now (image .entry)) (record { fat = now (fat .entry); fats = now (fats .entry); difats = now (difats .entry); frees = now (frees .entry); marks = now (marks .entry) }) (now (ids .entry)) start 0 r (now (answer .exit)) (now (state .exit)) (now (image .exit)) (record { fat = now (fat .exit); fats = now (fats .exit); difats = now (difats .exit); frees = now (frees .exit); marks = now (marks .exit) }) (now (ids .exit)) ⌝ }
 {
-    let lent = *state;
-    if !holds_state(lent) {
-        words::fill32(ids, 0);
-        *answer = [0u64; 3];
-        return 19;
-    }
-    let held = state_in(lent);
-    let called = held.free(image, fat, fats, difats, frees, marks, ids, start);
-    give(called, state, answer)
+    rasuvelk_resize_chain(
+        state,
+        image,
+        fat,
+        fats,
+        difats,
+        frees,
+        marks,
+        ids,
+        start,
+        0,
+        answer,
+    )
 }
 
 // The kind of an entry: 0 regular, 1 reserved, 2 DIFAT, 3 FAT, 4 END, 5 FREE.

@@ -11,7 +11,7 @@ use lib.Dec.{eqb}
 use lib.ListN.{length}
 use Rattle.lists.specs.Lists.{both}
 use Rattle.lists.proofs.Cases.{below-or, both-left, both-right, both-false-left, both-false-right, not-both}
-use Rattle.header.specs.Fields.{idsIn}
+use Rattle.fields.specs.Fields.{idsIn}
 use Rattle.header.specs.declared.Header.{Header}
 use Rattle.fat.specs.Lists.{ceil, fatCount, difatCount, countsRight, difatAt, difatsOf, fatsOf, allBelow, different, ends, chainRight, restFree, idsRight, fatsRight, difatsIn, fatsIn, listsRight}
 use Rattle.fat.specs.Loaded.{ChainListed, Places, PlacesListed, Loads, ListsLoaded, Counted}

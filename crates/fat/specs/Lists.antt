@@ -6,7 +6,7 @@ use lib.Dec.{eqb, ltb}
 use lib.ListN.{length, getD}
 use Rattle.lists.specs.Lists.{choose, both, either, every, tab}
 use Rattle.consts.specs.Consts.{endOfChain, freeSector}
-use Rattle.header.specs.Fields.{idsIn}
+use Rattle.fields.specs.Fields.{idsIn}
 use Rattle.header.specs.declared.Header.{Header}
 use Rattle.sectors.specs.Sectors.{sectorOf, perSector, entryIn, entryOf}
 

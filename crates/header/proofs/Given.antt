@@ -17,9 +17,10 @@ use Rattle.lists.proofs.Splice.{sameList-refl, sameList-false}
 use Rattle.lists.proofs.Tab.{length-tab, getD-tab}
 use Rattle.words.proofs.Laws.{le-below}
 use Rattle.consts.specs.Consts.{maxRegular, invalidSector, endOfChain, freeSector}
-use Rattle.header.specs.Fields.{majorOf, shiftOf, versionOf, isStrict, entryAt, listOf, idsIn, allFree, idsThenFree}
+use Rattle.fields.specs.Fields.{entryAt, listOf, idsIn, allFree, idsThenFree, unreadable}
+use Rattle.header.specs.Versions.{majorOf, shiftOf, versionOf, isStrict}
 use Rattle.header.specs.Read.{unknown, countsDirs, readRows, readNo, readNumber, ReadSays}
-use Rattle.header.specs.Write.{unreadable, writeRows, writeNo, writeNumber, WriteSays}
+use Rattle.header.specs.Write.{writeRows, writeNo, writeNumber, WriteSays}
 use Rattle.header.specs.Causes.{Broken, GoodList, Cause, WriteCause}
 use Rattle.header.specs.declared.Version.{Version}
 use Rattle.header.specs.declared.Version.the-variants.{V3, V4}
@@ -29,7 +30,7 @@ use Rattle.header.specs.declared.Header.{Header}
 use Rattle.header.specs.declared.ReadVerdict.{ReadVerdict}
 use Rattle.header.specs.declared.Read.{Read}
 use Rattle.header.specs.declared.WriteVerdict.{WriteVerdict}
-use Rattle.header.proofs.Listed.{ids-within}
+use Rattle.fields.proofs.Listed.{ids-within}
 
 -- the ids that a list begins with are sector numbers
 ids-low : (xs : List ℕ) (i : ℕ) → i < idsIn xs → getD xs i 0 ≤ maxRegular
@@ -54,7 +55,7 @@ ids-high (x ∷ xs) h = at (leb x maxRegular) refl h (ids-high xs)
     at false e h rest = leb-false x maxRegular e
 
 -- in a list that passes as FREE every entry is
-free-each : (xs : List ℕ) → allFree xs ≡ true → (i : ℕ) → i < length xs → getD xs i 0 ≡ freeSector
+pub free-each : (xs : List ℕ) → allFree xs ≡ true → (i : ℕ) → i < length xs → getD xs i 0 ≡ freeSector
 unfolding allFree
 free-each [] t i h = absurd (omega arith)
 free-each (x ∷ xs) t zero h = eqb-true x freeSector (both-left (eqb x freeSector) (allFree xs) t)

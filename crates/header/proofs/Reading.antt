@@ -9,7 +9,7 @@ use Rattle.lists.specs.Lists.{part, sameList}
 use Rattle.lists.specs.Rows.{row, refusal, distinct}
 use Rattle.lists.proofs.Rows.{Passed, passed-none, passed-more, passed-given, append-given, append-none}
 use Rattle.consts.specs.Consts.{signature}
-use Rattle.header.specs.Fields.{listOf, idsThenFree}
+use Rattle.fields.specs.Fields.{listOf, idsThenFree}
 use Rattle.header.specs.Read.{fixedOf, fixedRows, readRows, readNo, readNumber, headerOf, none, ReadSays}
 use Rattle.header.specs.declared.Validation.{Validation}
 use Rattle.header.specs.declared.Header.{Header}

@@ -17,9 +17,10 @@ use Rattle.lists.proofs.Tab.{length-tab, getD-tab}
 use Rattle.words.specs.Words.{le, digits}
 use Rattle.words.proofs.Laws.{le-below, below-digits}
 use Rattle.consts.specs.Consts.{signature, minorVersion, byteOrder, miniShift, miniCutoff, endOfChain, freeSector}
-use Rattle.header.specs.Fields.{majorOf, shiftOf, versionOf, majorAt, dirsAt, difatAt, numberAt, entryAt, listOf, idsThenFree}
+use Rattle.fields.specs.Fields.{majorAt, dirsAt, difatAt, numberAt, entryAt, listOf, idsThenFree, listBytes, unreadable}
+use Rattle.header.specs.Versions.{majorOf, shiftOf, versionOf}
 use Rattle.header.specs.Read.{unknown, countsDirs, readRows, readNo, dirsOf, endIfFree, headerOf}
-use Rattle.header.specs.Write.{startBytes, numberBytes, listBytes, headerBytes, unreadable, writeRows, writeNo, Sized}
+use Rattle.header.specs.Write.{startBytes, numberBytes, headerBytes, writeRows, writeNo, Sized}
 use Rattle.header.specs.declared.Version.the-variants.{V3}
 use Rattle.header.specs.declared.Validation.{Validation}
 use Rattle.header.specs.declared.Validation.the-variants.{Strict}

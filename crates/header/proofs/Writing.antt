@@ -11,15 +11,16 @@ use Rattle.lists.proofs.Rows.{Passed, passed-none, passed-more, passed-given, p
 use Rattle.lists.proofs.Splice.{splice-next}
 use Rattle.words.specs.Words.{digits}
 use Rattle.consts.specs.Consts.{signature, minorVersion, byteOrder, miniShift, miniCutoff}
-use Rattle.header.specs.Fields.{majorOf, shiftOf}
+use Rattle.header.specs.Versions.{majorOf, shiftOf}
 use Rattle.header.specs.Read.{countsDirs}
-use Rattle.header.specs.Write.{startBytes, numberBytes, listBytes, headerBytes, unreadable, writeRows, writeNo, writeNumber, WriteSays}
+use Rattle.fields.specs.Fields.{listBytes, unreadable}
+use Rattle.header.specs.Write.{startBytes, numberBytes, headerBytes, writeRows, writeNo, writeNumber, WriteSays}
 use Rattle.header.specs.declared.Version.{Version}
 use Rattle.header.specs.declared.Validation.the-variants.{Strict}
 use Rattle.header.specs.declared.Header.{Header}
 use Rattle.header.specs.declared.WriteVerdict.{WriteVerdict}
 use Rattle.header.specs.declared.WriteVerdict.the-variants.{Written}
-use Rattle.header.proofs.Listed.{length-listBytes}
+use Rattle.fields.proofs.Listed.{length-listBytes}
 
 -- the fields from the signature to the reserved bytes, b being the buffer before, b1 to b8 after each store
 pub start-stored : (v : Version) (major shift : ℕ) (b b1 b2 b3 b4 b5 b6 b7 b8 : List ℕ) → 512 ≤ length b → major ≡ majorOf v → shift ≡ shiftOf v

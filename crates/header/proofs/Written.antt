@@ -18,16 +18,17 @@ use Rattle.lists.proofs.Tab.{is-tab}
 use Rattle.words.specs.Words.{le, digits}
 use Rattle.words.proofs.Laws.{le-ext, le-inside, le-digits, length-digits}
 use Rattle.consts.specs.Consts.{signature, byteOrder, miniShift, miniCutoff, freeSector}
-use Rattle.header.specs.Fields.{majorOf, shiftOf, versionOf, orderAt, majorAt, shiftAt, miniAt, dirsAt, fatsAt, dirAt, cutoffAt, minifatAt, minifatsAt, difatAt, difatsAt, offsetOf, widthOf, numberAt, entryAt, listOf, idsThenFree}
+use Rattle.fields.specs.Fields.{orderAt, majorAt, shiftAt, miniAt, dirsAt, fatsAt, dirAt, cutoffAt, minifatAt, minifatsAt, difatAt, difatsAt, offsetOf, widthOf, numberAt, entryAt, listOf, idsThenFree, listBytes, unreadable}
+use Rattle.header.specs.Versions.{majorOf, shiftOf, versionOf}
 use Rattle.header.specs.Read.{fixedOf, fixedRows, unknown, countsDirs, dirsOf, endIfFree, headerOf, readNo}
-use Rattle.header.specs.Write.{startBytes, numberBytes, listBytes, headerBytes, unreadable, writeRows, writeNo, Sized}
+use Rattle.header.specs.Write.{startBytes, numberBytes, headerBytes, writeRows, writeNo, Sized}
 use Rattle.header.specs.declared.Version.{Version}
 use Rattle.header.specs.declared.Version.the-variants.{V3, V4}
 use Rattle.header.specs.declared.Validation.{Validation}
 use Rattle.header.specs.declared.Validation.the-variants.{Permissive, Strict}
 use Rattle.header.specs.declared.Header.{Header}
 use Rattle.header.specs.declared.judge.Fixed.{Fixed}
-use Rattle.header.proofs.Listed.{length-listBytes}
+use Rattle.fields.proofs.Listed.{length-listBytes}
 use Rattle.header.proofs.Reading.{gives-0}
 use Rattle.header.proofs.Writing.{length-start, length-numbers}
 

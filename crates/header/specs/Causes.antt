@@ -6,7 +6,7 @@ use mathlib.Core.Logic.{_⊎_, _≢_}
 use lib.ListN.{length, getD}
 use Rattle.lists.specs.Lists.{part}
 use Rattle.consts.specs.Consts.{signature, byteOrder, miniShift, miniCutoff, maxRegular, freeSector}
-use Rattle.header.specs.Fields.{majorAt, orderAt, shiftAt, miniAt, dirsAt, cutoffAt, numberAt, listOf}
+use Rattle.fields.specs.Fields.{majorAt, orderAt, shiftAt, miniAt, dirsAt, cutoffAt, numberAt, listOf}
 use Rattle.header.specs.declared.Version.the-variants.{V3}
 use Rattle.header.specs.declared.Validation.{Validation}
 use Rattle.header.specs.declared.Validation.the-variants.{Strict}

@@ -1,4 +1,4 @@
 pub mod Causes
-pub mod Fields
 pub mod Read
+pub mod Versions
 pub mod Write

@@ -8,7 +8,8 @@ use lib.ListN.{length, replicate}
 use Rattle.lists.specs.Lists.{choose, both, part, sameList}
 use Rattle.lists.specs.Rows.{Row, row, refusal}
 use Rattle.consts.specs.Consts.{signature, byteOrder, miniShift, miniCutoff, endOfChain, freeSector}
-use Rattle.header.specs.Fields.{majorAt, orderAt, shiftAt, miniAt, dirsAt, fatsAt, dirAt, cutoffAt, minifatAt, minifatsAt, difatAt, difatsAt, numberAt, listOf, idsThenFree, isStrict, versionOf, shiftOf}
+use Rattle.fields.specs.Fields.{majorAt, orderAt, shiftAt, miniAt, dirsAt, fatsAt, dirAt, cutoffAt, minifatAt, minifatsAt, difatAt, difatsAt, numberAt, listOf, idsThenFree}
+use Rattle.header.specs.Versions.{isStrict, versionOf, shiftOf}
 use Rattle.header.specs.declared.Version.the-variants.{V3}
 use Rattle.header.specs.declared.Validation.{Validation}
 use Rattle.header.specs.declared.judge.Fixed.{Fixed}

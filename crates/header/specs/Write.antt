@@ -1,15 +1,15 @@
 -- What writing a header gives: document 01's refusals 1, 7 and 9, and the bytes by MS-CFB 2.2. Assumes nothing.
 use Prim.Native.Nat.{ℕ, _^_, _<_}
 use mathlib.Core.Path.{_≡_}
-use mathlib.Core.Bool.{Bool, not}
 use mathlib.Core.List.{List, [], _∷_, _++_}
 use lib.Dec.{eqb, ltb}
 use lib.ListN.{length, replicate}
-use Rattle.lists.specs.Lists.{choose, either, splice, Below}
+use Rattle.lists.specs.Lists.{choose, splice, Below}
 use Rattle.lists.specs.Rows.{Row, row, refusal}
 use Rattle.words.specs.Words.{digits}
-use Rattle.consts.specs.Consts.{signature, minorVersion, byteOrder, miniShift, miniCutoff, freeSector}
-use Rattle.header.specs.Fields.{majorOf, shiftOf, idsThenFree}
+use Rattle.consts.specs.Consts.{signature, minorVersion, byteOrder, miniShift, miniCutoff}
+use Rattle.fields.specs.Fields.{listBytes, unreadable}
+use Rattle.header.specs.Versions.{majorOf, shiftOf}
 use Rattle.header.specs.Read.{countsDirs}
 use Rattle.header.specs.declared.Version.{Version}
 use Rattle.header.specs.declared.Validation.the-variants.{Strict}
@@ -23,10 +23,6 @@ writeNumber Written = 0
 writeNumber Short = 1
 writeNumber Directories = 7
 writeNumber Entries = 9
-
--- a list that no reader could give, or a first DIFAT sector of FREE
-unfoldable pub unreadable : List ℕ → ℕ → Bool
-unreadable list difat = either (not (idsThenFree list)) (eqb difat freeSector)
 
 -- document 01: the writer's refusals, of h into n lent bytes
 unfoldable pub writeRows : Header → ℕ → List Row
@@ -54,11 +50,6 @@ numberBytes h =
     digits 4 (h .dirs) ++ (digits 4 (h .fats) ++ (digits 4 (h .dir)
     ++ (digits 4 0 ++ (digits 4 miniCutoff
     ++ (digits 4 (h .minifat) ++ (digits 4 (h .minifats) ++ (digits 4 (h .difat) ++ digits 4 (h .difats))))))))
-
--- MS-CFB 2.2, DIFAT: the entries, four bytes each
-unfoldable pub listBytes : List ℕ → List ℕ
-listBytes [] = []
-listBytes (x ∷ xs) = digits 4 x ++ listBytes xs
 
 -- MS-CFB 2.2: the bytes of a header
 unfoldable pub headerBytes : Header → List ℕ

@@ -3,14 +3,14 @@ use crate::Header;
 use crate::Read;
 use crate::ReadVerdict;
 use crate::Version;
-use crate::entries::read_list;
-use crate::fields::*;
 use crate::judge::version_of;
+use fields::entries::read_list;
+use fields::*;
 ghost use mathlib.Core.Path.{_≡_};
 ghost use Prim.Native.Nat.{_≤_};
 ghost use lib.ListN.{length};
 ghost use Rattle.lists.specs.Lists.{splice};
-ghost use Rattle.header.specs.Fields.{dirsAt, offsetOf};
+ghost use Rattle.fields.specs.Fields.{dirsAt, offsetOf};
 ghost use Rattle.header.specs.Read.{dirsOf, endIfFree, headerOf, none};
 ghost use Rattle.header.specs.Write.{startBytes, numberBytes};
 

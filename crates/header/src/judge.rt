@@ -2,18 +2,18 @@
 use crate::ReadVerdict;
 use crate::Validation;
 use crate::Version;
-use crate::fields::BYTE_ORDER;
-use crate::fields::CUTOFF;
-use crate::fields::DIRS;
-use crate::fields::MAJOR;
-use crate::fields::MINI_SHIFT;
-use crate::fields::SECTOR_SHIFT;
-use crate::fields::number_at;
+use fields::BYTE_ORDER;
+use fields::CUTOFF;
+use fields::DIRS;
+use fields::MAJOR;
+use fields::MINI_SHIFT;
+use fields::SECTOR_SHIFT;
+use fields::number_at;
 ghost use mathlib.Core.Path.{_≡_};
 ghost use Prim.Native.Nat.{_≤_};
 ghost use lib.ListN.{length};
 ghost use Rattle.lists.specs.Rows.{refusal};
-ghost use Rattle.header.specs.Fields.{versionOf};
+ghost use Rattle.header.specs.Versions.{versionOf};
 ghost use Rattle.header.specs.Read.{readNumber, fixedOf, unknown as unknownOf, countsDirs, fixedRows};
 
 // The numbers that a header is judged by.

@@ -1,24 +1,23 @@
 // The header of a compound file (MS-CFB 2.2): a reader and a writer that go by one table of fields.
 // Both answer for every slice and every number; each refusal has document 01's number.
 pub mod content;
-pub mod entries;
-pub mod fields;
 mod judge;
 
 use content::content;
 use content::put_numbers;
 use content::put_start;
 use content::refused;
-use entries::ids_then_free;
-use entries::leading_ids;
-use entries::put_list;
-use entries::unreadable;
+use fields::entries::ids_then_free;
+use fields::entries::leading_ids;
+use fields::entries::put_list;
+use fields::entries::unreadable;
 use fields::signed;
 use judge::counts_dirs;
 use judge::judge;
 use judge::judged_by;
 ghost use mathlib.Core.Path.{_≡_};
-ghost use Rattle.header.specs.Fields.{majorOf, shiftOf, lengthOf, numberedOf, isStrict, idsIn};
+ghost use Rattle.fields.specs.Fields.{idsIn};
+ghost use Rattle.header.specs.Versions.{majorOf, shiftOf, lengthOf, numberedOf, isStrict};
 ghost use Rattle.header.specs.Read.{readNumber, none as noHeader, ReadSays};
 ghost use Rattle.header.specs.Write.{writeNumber, WriteSays};
 

@@ -15,7 +15,8 @@ use Rattle.words.proofs.Laws.{le-below}
 use Rattle.consts.specs.Consts.{endOfChain, freeSector}
 use Rattle.consts.specs.declared.Sector.{Sector}
 use Rattle.consts.specs.declared.Sector.the-variants.{Free, End, Fat, Difat, Range}
-use Rattle.header.specs.Fields.{majorOf, versionOf, majorAt, dirsAt, fatsAt, dirAt, minifatAt, minifatsAt, difatAt, difatsAt, offsetOf, widthOf, numberAt, listOf}
+use Rattle.fields.specs.Fields.{majorAt, dirsAt, fatsAt, dirAt, minifatAt, minifatsAt, difatAt, difatsAt, offsetOf, widthOf, numberAt, listOf}
+use Rattle.header.specs.Versions.{majorOf, versionOf}
 use Rattle.header.specs.Read.{dirsOf, endIfFree, headerOf, none}
 use Rattle.header.proofs.Given.{entries-narrow}
 use Rattle.header.specs.declared.Version.{Version}

@@ -11,7 +11,7 @@ use lib.ListN.{length, getD, drop, length-drop, drop-of-length-le}
 use lib.Seq.{drop-cons, getD-drop}
 use Rattle.lists.specs.Lists.{both}
 use Rattle.lists.proofs.Cases.{both-left, both-right}
-use Rattle.header.specs.Fields.{versionOf}
+use Rattle.header.specs.Versions.{versionOf}
 use Rattle.header.specs.declared.Version.{Version}
 use Rattle.header.specs.declared.Version.the-variants.{V3, V4}
 use Rattle.header.specs.declared.Validation.{Validation}

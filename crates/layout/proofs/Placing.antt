@@ -9,7 +9,7 @@ use lib.Seq.{take-suc, take-all, length-take-le, getD-drop, take-at}
 use Rattle.lists.specs.Lists.{splice}
 use Rattle.lists.proofs.Splice.{splice-whole}
 use Rattle.words.proofs.Laws.{put-more, copied-more}
-use Rattle.header.specs.Fields.{majorOf}
+use Rattle.header.specs.Versions.{majorOf}
 use Rattle.header.specs.declared.Version.{Version}
 use Rattle.header.specs.declared.Header.{Header}
 use Rattle.cfb.specs.declared.State.{State}

@@ -4,7 +4,7 @@ use mathlib.Core.List.{List, _∷_}
 use lib.Dec.{eqb}
 use lib.ListN.{length, getD, drop}
 use Rattle.lists.specs.Lists.{choose, splice}
-use Rattle.header.specs.Fields.{majorOf, versionOf}
+use Rattle.header.specs.Versions.{majorOf, versionOf}
 use Rattle.header.specs.Read.{unknown, readNo, headerOf, none}
 use Rattle.header.specs.Write.{writeNo, headerBytes}
 use Rattle.header.specs.declared.Version.{Version}

@@ -9,7 +9,7 @@ ghost use mathlib.Core.Path.{_≡_};
 ghost use mathlib.Core.List.{_++_};
 ghost use mathlib.Core.Bool.{true};
 ghost use lib.ListN.{replicate, drop};
-ghost use Rattle.header.specs.Fields.{versionOf};
+ghost use Rattle.header.specs.Versions.{versionOf};
 ghost use Rattle.layout.specs.Layout.{modeOf};
 ghost use Rattle.layout.specs.States.{modeNumber, stateWords, fitsIn, isVersion, holds, heldIn};
 

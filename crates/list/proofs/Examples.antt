@@ -7,12 +7,13 @@ use Rattle.lists.specs.Lists.{every, tab, part, sameList}
 use Rattle.lists.specs.Rows.{refusal}
 use Rattle.words.specs.Words.{le, digits}
 use Rattle.consts.specs.Consts.{endOfChain, fatSector, freeSector}
-use Rattle.header.specs.Fields.{numberAt, listOf, idsThenFree, versionOf}
+use Rattle.fields.specs.Fields.{numberAt, listOf, idsThenFree, listBytes}
+use Rattle.header.specs.Versions.{versionOf}
 use Rattle.header.specs.Read.{headerOf, unknown, countsDirs, endIfFree}
-use Rattle.header.specs.Write.{headerBytes, listBytes}
+use Rattle.header.specs.Write.{headerBytes}
 use Rattle.header.specs.declared.Version.the-variants.{V3}
 use Rattle.header.specs.declared.Header.{Header}
-use Rattle.list.specs.Listing.{listing}
+use Rattle.listing.specs.Listing.{listing}
 
 -- document 01, image Q: version 3, one FAT sector at 0
 unfoldable pub headerQ : Header

@@ -1,4 +1,1 @@
 pub mod Examples
-pub mod Fits
-pub mod Opened
-pub mod Puts

@@ -18,12 +18,12 @@ use Rattle.chain.proofs.Stored.{write-length, write-none}
 use Rattle.chain.proofs.Zeroed.{zero-length}
 use Rattle.disk.specs.Needed.{resizeMore, writeMore}
 use Rattle.disk.proofs.Needing.{write-within}
-use Rattle.moves.specs.Hand.{Hand, Chain, extend}
-use Rattle.moves.specs.Fits.{FitsChain, FitsMore}
+use Rattle.hand.specs.Hand.{Hand, Chain, extend}
+use Rattle.hand.specs.Fits.{FitsChain, FitsMore}
 use Rattle.moves.specs.Change.{shrink, withImage, idsOf, resized, written, Apart, FitsShrink, FitsResize, FitsWrite}
 use Rattle.moves.proofs.Shrinking.{shrink-fits, shrink-count, shrink-ids, shrink-long}
 use Rattle.moves.proofs.Staying.{extend-apart}
-use Rattle.moves.proofs.Linking.{ChainLong}
+use Rattle.hand.proofs.Linking.{ChainLong}
 use Rattle.moves.proofs.Extending.{chainOf, extend-none, extend-fits, extend-count, extend-long}
 
 -- numbers of a chain in hand are small

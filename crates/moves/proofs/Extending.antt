@@ -7,10 +7,10 @@ use lib.ListN.{length}
 use Rattle.fat.specs.Lists.{most, roomOf}
 use Rattle.disk.specs.Disk.{countAfter}
 use Rattle.disk.proofs.Fitting.{count-none}
-use Rattle.moves.specs.Hand.{Chain, extendOne, extend}
-use Rattle.moves.specs.Fits.{FitsChain, FitsMore}
-use Rattle.moves.proofs.Pointing.{handOf, long-none, long-then}
-use Rattle.moves.proofs.Linking.{ChainLong, one-count, one-free, one-fits, one-long, one-counted, more-small, more-one}
+use Rattle.hand.specs.Hand.{Chain, extendOne, extend}
+use Rattle.hand.specs.Fits.{FitsChain, FitsMore}
+use Rattle.hand.proofs.Pointing.{handOf, long-none, long-then}
+use Rattle.hand.proofs.Linking.{ChainLong, one-count, one-free, one-fits, one-long, one-counted, more-small, more-one}
 
 -- no sector more, and one and the others
 pub extend-none : (S : ℕ) (c : Chain) → extend S c 0 ≡ c

@@ -10,12 +10,12 @@ use lib.Seq.{getD-take, length-take-le, take-at}
 use Rattle.lists.proofs.Cases.{below-or}
 use Rattle.consts.specs.Consts.{endOfChain}
 use Rattle.alloc.specs.Opened.{padded}
-use Rattle.moves.specs.Hand.{Hand, Chain, freeRun}
-use Rattle.moves.specs.Fits.{FitsHand, FitsFrees, FitsLast, FitsChain}
+use Rattle.hand.specs.Hand.{Hand, Chain, freeRun}
+use Rattle.hand.specs.Fits.{FitsHand, FitsFrees, FitsLast, FitsChain}
 use Rattle.moves.specs.Change.{cut, shrink, idsOf, FitsShrink}
-use Rattle.moves.proofs.Pointing.{handOf, long-none, long-then}
-use Rattle.moves.proofs.Freeing.{free-run-count, free-run-sectors, free-run-long, chain-frees, chain-freed}
-use Rattle.moves.proofs.Linking.{ChainLong, last-fits, linked-fits, linked-counts, linked-long}
+use Rattle.hand.proofs.Pointing.{handOf, long-none, long-then}
+use Rattle.hand.proofs.Freeing.{free-run-count, free-run-sectors, free-run-long, chain-frees, chain-freed}
+use Rattle.hand.proofs.Linking.{ChainLong, last-fits, linked-fits, linked-counts, linked-long}
 use Rattle.moves.proofs.Extending.{chainOf}
 
 -- a list that is zero from place m on: it is as long, and what stands before m stays

@@ -10,11 +10,11 @@ use Rattle.lists.proofs.Cases.{same-or}
 use Rattle.disk.specs.Disk.{Disk, ready}
 use Rattle.disk.proofs.Needing.{one-more-between}
 use Rattle.disk.proofs.Fitting.{ready-sectors}
-use Rattle.moves.specs.Hand.{Hand, Chain, point, linked, takenId, takeSector, extendOne, extend}
-use Rattle.moves.specs.Fits.{FitsChain, FitsMore}
+use Rattle.hand.specs.Hand.{Hand, Chain, point, linked, takenId, takeSector, extendOne, extend}
+use Rattle.hand.specs.Fits.{FitsChain, FitsMore}
 use Rattle.moves.specs.Change.{Apart}
-use Rattle.moves.proofs.Taking.{take-one, id-new, id-last}
-use Rattle.moves.proofs.Linking.{linked-none, linked-last, one-count, one-free, more-place, one-fits}
+use Rattle.hand.proofs.Taking.{take-one, id-new, id-last}
+use Rattle.hand.proofs.Linking.{linked-none, linked-last, one-count, one-free, more-place, one-fits}
 use Rattle.moves.proofs.Extending.{extend-none, extend-more}
 
 -- a sector that is new is none of those that there are

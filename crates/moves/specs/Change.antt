@@ -11,8 +11,8 @@ use Rattle.fat.specs.Lists.{ceil}
 use Rattle.alloc.specs.Opened.{padded}
 use Rattle.chain.specs.Stores.{writeBytes, zeroTail}
 use Rattle.disk.specs.Needed.{resizeMore, writeMore}
-use Rattle.moves.specs.Fits.{FitsChain, FitsMore}
-use Rattle.moves.specs.Hand.{Hand, Chain, linked, freeRun, extend}
+use Rattle.hand.specs.Fits.{FitsChain, FitsMore}
+use Rattle.hand.specs.Hand.{Hand, Chain, linked, freeRun, extend}
 
 -- the last of the first m sectors ends the chain
 abbrev pub cut : ℕ → Hand → List ℕ → ℕ → Hand

@@ -5,7 +5,7 @@ use mathlib.Core.List.{List}
 use mathlib.Core.Logic.{inl}
 use native.Mathlib.Omega.{arith}
 use lib.ListN.{length, getD}
-use Rattle.header.specs.Fields.{lengthOf}
+use Rattle.header.specs.Versions.{lengthOf}
 use Rattle.header.specs.Read.{headerOf}
 use Rattle.header.specs.declared.Header.{Header}
 use Rattle.header.specs.declared.Validation.{Validation}
@@ -14,9 +14,9 @@ use Rattle.header.proofs.Given.{strict}
 use Rattle.fat.specs.Lists.{roomOf}
 use Rattle.alloc.specs.Opening.{Tables}
 use Rattle.agree.specs.Agrees.{Agrees}
-use Rattle.moves.specs.Hand.{Chain}
+use Rattle.hand.specs.Hand.{Chain}
 use Rattle.moves.specs.Change.{resized, written}
-use Rattle.moves.specs.Fits.{FitsChain}
+use Rattle.hand.specs.Fits.{FitsChain}
 use Rattle.moves.proofs.Changing.{resized-fits, resized-long, written-fits, written-long}
 use Rattle.edits.specs.Untouched.{Untouched}
 use Rattle.edits.proofs.Edits.{header-untouched}

@@ -9,7 +9,7 @@ use lib.ListN.{length, getD, take}
 use lib.Seq.{getD-take}
 use Rattle.lists.specs.Rows.{refusal}
 use Rattle.consts.specs.Consts.{difatSector, fatSector, endOfChain, freeSector}
-use Rattle.header.specs.Fields.{lengthOf, isStrict}
+use Rattle.header.specs.Versions.{lengthOf, isStrict}
 use Rattle.header.specs.Read.{headerOf}
 use Rattle.header.specs.declared.Header.{Header}
 use Rattle.header.specs.declared.Validation.{Validation}

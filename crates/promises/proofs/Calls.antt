@@ -14,7 +14,7 @@ use Rattle.alloc.specs.Opening.{Tables}
 use Rattle.alloc.specs.Opened.{padded}
 use Rattle.chain.specs.Bytes.{chainBytes}
 use Rattle.chain.specs.Walk.{lists, walkOf}
-use Rattle.moves.specs.Hand.{Chain}
+use Rattle.hand.specs.Hand.{Chain}
 use Rattle.disk.specs.Needed.{resizeMore, writeMore}
 use Rattle.moves.specs.Change.{resized, written, idsOf, FitsResize, FitsWrite}
 use Rattle.moves.proofs.Changing.{resized-fits, written-fits}

@@ -9,7 +9,8 @@ use Rattle.lists.specs.Lists.{choose, both, every, tab, splice, part, sameList}
 use Rattle.lists.specs.Rows.{Row, row, refusal}
 use Rattle.words.specs.Words.{le, digits}
 use Rattle.consts.specs.Consts.{fatSector, endOfChain, freeSector}
-use Rattle.header.specs.Fields.{numberAt, listOf, idsThenFree, versionOf, isStrict}
+use Rattle.fields.specs.Fields.{numberAt, listOf, idsThenFree}
+use Rattle.header.specs.Versions.{versionOf, isStrict}
 use Rattle.header.specs.Read.{headerOf, unknown, countsDirs, dirsOf, endIfFree}
 use Rattle.header.specs.Write.{headerBytes}
 use Rattle.header.specs.declared.Version.the-variants.{V3}
@@ -24,7 +25,7 @@ use Rattle.alloc.specs.Opened.{tablesLeft}
 use Rattle.alloc.proofs.Examples.{headerQ, imageOf, imageQ}
 use Rattle.agree.specs.Agree.{sameHeader, holds}
 use Rattle.chain.specs.Bytes.{chainBytes}
-use Rattle.moves.specs.Hand.{Chain}
+use Rattle.hand.specs.Hand.{Chain}
 use Rattle.moves.specs.Change.{idsOf, withImage, resized, written}
 use Rattle.cfb.specs.Face.{stateOf, tablesOf}
 use Rattle.cfb.specs.Calls.{stateLen, chainNo, chainIds}

@@ -27,15 +27,16 @@ use Rattle.disk.specs.Needed.{resizeMore, writeMore}
 use Rattle.disk.proofs.Counting.{fat-full, difat-none, difat-suc, needs-full, needs-not}
 use Rattle.disk.proofs.Keeping.{each-many, sectors-inside}
 use Rattle.disk.proofs.Fitting.{difatNew, difatMarked, full-many, full-room, full-place, marked-room, ready-full, ready-part, new-full, ready-room, ready-has, count-full, count-part, new-sectors}
-use Rattle.moves.specs.Hand.{Hand, Chain, point, takenId, takeSector, freeSectorOf, freeRun, linked, extendOne, extend}
-use Rattle.moves.specs.Fits.{FitsMore, FitsFrees}
+use Rattle.hand.specs.Hand.{Hand, Chain, point, takenId, takeSector, freeSectorOf, freeRun, linked, extendOne, extend}
+use Rattle.hand.specs.Fits.{FitsMore, FitsFrees}
 use Rattle.moves.specs.Change.{cut, shrink, withImage, idsOf, resized, written, FitsShrink, FitsResize, FitsWrite}
-use Rattle.moves.proofs.Taking.{take-none, take-one, taken-below}
-use Rattle.moves.proofs.Linking.{linked-none, linked-last, one-fits, more-room, more-last}
+use Rattle.hand.proofs.Taking.{take-none, take-one, taken-below}
+use Rattle.hand.proofs.Linking.{linked-none, linked-last, one-fits, more-room, more-last}
 use Rattle.moves.proofs.Extending.{extend-none, extend-more, extend-count}
-use Rattle.moves.proofs.Freeing.{free-none, free-more, frees-more}
+use Rattle.hand.proofs.Freeing.{free-none, free-more, frees-more}
 use Rattle.moves.proofs.Shrinking.{shrink-none, shrink-some, shrink-last, shrink-frees}
 use Rattle.moves.proofs.Changing.{chain-listed, chain-id, chain-writable, shrunk-writable, resized-more, resized-fewer, resize-shrink, write-covers}
+use Rattle.edits.proofs.Growing.{hold-fats}
 use Rattle.edits.specs.Roles.{Roles, fatsHeld, difatsHeld}
 use Rattle.edits.proofs.Roles.{one-roles, extend-roles, shrink-roles}
 use Rattle.promises.specs.Coded.{placeOf, Coded}
@@ -77,10 +78,6 @@ hold-stands {S} {R} {h} {k} {m} {p} {d} s far small low room =
     let same : difatCount S (suc p) ≡ difatCount S p = q ∙ sym (needs-not S p two far t) in
     rw t (stands-at refl same refl refl same s))
     (true-or (needsDifat S p))
-
-hold-fats : (S p : ℕ) (d : Disk) → holdPlace S d p .fats ≡ d .fats
-unfolding holdPlace appendDifat store pushFat listDifat
-hold-fats S p d = ⊎-elim (λ (t : needsDifat S p ≡ true). rw t refl) (λ (t : needsDifat S p ≡ false). rw t refl) (true-or (needsDifat S p))
 
 -- a FAT sector in its place of the DIFAT
 list-stands : {S R h k p : ℕ} {d : Disk} → Stands S R h (difatCount S p) k p (difatCount S p) d → (id : ℕ) → id ≡ getD (d .fats) p 0 → id < 2 ^ 32 → p < R

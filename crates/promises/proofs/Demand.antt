@@ -1,16 +1,13 @@
 -- The third demand: after any list of edits, what is in hand is what the bytes say, and each call did its edit and nothing else. Assumes nothing.
-use Prim.Native.Nat.{ℕ, zero, suc, _*_, _≤_, _<_}
+use Prim.Native.Nat.{ℕ, zero, suc, _*_, _<_}
 use mathlib.Core.Path.{_≡_, refl, sym, _∙_, ap}
-use mathlib.Core.Bool.{true, false}
-use mathlib.Core.List.{List, [], _∷_, _++_, append-nil, flatMap}
+use mathlib.Core.List.{List, [], _∷_, append-nil, flatMap}
 use mathlib.Core.Logic.{⊎-elim, _≢_}
 use native.Mathlib.Omega.{arith}
 use borrow.Author.Tests.{eq-eqb, ne-eqb}
-use lib.Dec.{eqb}
 use lib.ListN.{length, getD, take}
-use Rattle.lists.specs.Lists.{choose}
-use Rattle.lists.proofs.Cases.{true-or, same-or}
-use Rattle.header.specs.Fields.{lengthOf}
+use Rattle.lists.proofs.Cases.{same-or}
+use Rattle.header.specs.Versions.{lengthOf}
 use Rattle.header.specs.Read.{headerOf}
 use Rattle.header.specs.declared.Validation.the-variants.{Strict}
 use Rattle.header.specs.declared.Version.{Version}
@@ -21,19 +18,17 @@ use Rattle.alloc.specs.Opening.{Tables, openNo, shortest}
 use Rattle.alloc.specs.Opened.{padded}
 use Rattle.chain.specs.Bytes.{chainBytes}
 use Rattle.chain.specs.Walk.{lists, walkOf}
-use Rattle.moves.specs.Hand.{Chain}
+use Rattle.hand.specs.Hand.{Chain}
 use Rattle.moves.specs.Change.{idsOf}
 use Rattle.edits.specs.Untouched.{Other, Others}
 use Rattle.cfb.specs.Calls.{stateLen, walked, chainIds, outcomeIds}
-use Rattle.cfb.specs.Changes.{chainFrom, stateFrom, tablesIn, startIn, Changes, ChainWrites, ChainResizes}
-use Rattle.cfb.specs.declared.State.{State}
-use Rattle.cfb.specs.declared.Called.{Called}
+use Rattle.cfb.specs.Changes.{chainFrom, stateFrom, tablesIn, startIn}
 use Rattle.cfb.proofs.Refusing.{padded-front}
-use Rattle.promises.specs.Demand.{InHand, Edit, write, resize, free, named, editNo, chainNamed, chainAfter, handOf, after, Call, afterAll, opened, idsFrom, bytesFrom, startAfter, edited, Elsewhere, Another, Promised}
+use Rattle.promises.specs.Demand.{InHand, Edit, write, resize, free, named, editNo, chainNamed, chainAfter, handOf, after, Call, afterAll, opened, idsFrom, bytesFrom, edited, Elsewhere, Another, Promised}
 use Rattle.promises.specs.Whole.{fatHeld}
 use Rattle.promises.proofs.After.{AgreesAfter, resize-agrees, resize-strict, resize-len, write-agrees, write-strict, write-len}
 use Rattle.promises.proofs.Calls.{Walks, resize-walks, resize-edits, resize-keeps, write-walks, write-edits, write-keeps}
-use Rattle.promises.proofs.Others.{Absent, resize-others-walk, write-others-walk}
+use Rattle.promises.proofs.Others.{Absent, resize-others-walk, resize-others-bytes, write-others-walk, write-others-bytes}
 use Rattle.promises.proofs.Kept.{Sure, sure-fresh, opened-sure}
 
 -- what is known of an accepted call that leaves the chain c in hand, whose bytes were to become xs
@@ -47,6 +42,8 @@ pub record Done (h : InHand) (room : ℕ) (e : Edit) (c : Chain) (xs : List ℕ)
       → chainBytes (stateLen (h .state)) (c .hand .disk .image) others ≡ chainBytes (stateLen (h .state)) (h .image) others
   pub others : (x : ℕ) (ids : List ℕ) → Absent (idsFrom h (named e)) x → walkOf (take (h .state .sectors) (h .tables .fat)) x ≡ lists ids
       → walkOf (fatHeld (c .hand .disk)) x ≡ lists ids
+  pub others-bytes : (x : ℕ) (ids : List ℕ) → Absent (idsFrom h (named e)) x → walkOf (take (h .state .sectors) (h .tables .fat)) x ≡ lists ids
+      → chainBytes (stateLen (h .state)) (c .hand .disk .image) ids ≡ chainBytes (stateLen (h .state)) (h .image) ids
 
 -- bytes of a chain by equal parts, and those of one sector
 bytes-own : (S S' : ℕ) (img img' ids ids' : List ℕ) → S ≡ S' → img ≡ img' → ids ≡ ids' → chainBytes S img ids ≡ chainBytes S' img' ids'
@@ -89,6 +86,10 @@ module _ (h : InHand) (room : ℕ) (e : Edit) (c : Chain) (xs : List ℕ) (d : D
   unfolding walked
   done-others x ids a = done-walked x ∙ d .others x ids (a .apart) (a .walks)
 
+  done-others-bytes : (x : ℕ) (ids : List ℕ) → Another h e x ids → chainBytes (stateLen (h .state)) (handOf (h .state) c .image) ids ≡ chainBytes (stateLen (h .state)) (h .image) ids
+  unfolding walked handOf
+  done-others-bytes x ids a = d .others-bytes x ids (a .apart) (a .walks)
+
   other-one : (i : ℕ) → Elsewhere h room e i → Other (stateLen (h .state)) (chainNamed h room e) i
   unfolding chainFrom
   other-one i w = record {
@@ -118,6 +119,7 @@ write-done h room start offset buf z =
       bytes = write-edits (h .state) (h .image) (h .tables) room start offset buf z;
       keeps = write-keeps (h .state) (h .image) (h .tables) room start offset buf z;
       others = write-others-walk (h .state) (h .image) (h .tables) room start offset buf z;
+      others-bytes = write-others-bytes (h .state) (h .image) (h .tables) room start offset buf z;
     }
 
 resize-done : (h : InHand) (room start len : ℕ) → editNo h room (resize start len) ≡ 0
@@ -131,6 +133,7 @@ resize-done h room start len z =
       bytes = resize-edits (h .state) (h .image) (h .tables) room start len z;
       keeps = resize-keeps (h .state) (h .image) (h .tables) room start len z;
       others = resize-others-walk (h .state) (h .image) (h .tables) room start len z;
+      others-bytes = resize-others-bytes (h .state) (h .image) (h .tables) room start len z;
     }
 
 -- a free is a resize to no byte
@@ -143,7 +146,7 @@ free-done : (h : InHand) (room start : ℕ) → editNo h room (free start) ≡ 0
     → Done h room (free start) (chainAfter h room (free start)) (edited (stateLen (h .state)) (free start) (bytesFrom h start) (length (idsFrom h start)))
 free-done h room start z =
     let d = resize-done h room start 0 z in
-    record { strict = d .strict; agrees = d .agrees; len = d .len; walks = d .walks; bytes = d .bytes ∙ no-byte (h .state .header .version); keeps = d .keeps; others = d .others }
+    record { strict = d .strict; agrees = d .agrees; len = d .len; walks = d .walks; bytes = d .bytes ∙ no-byte (h .state .header .version); keeps = d .keeps; others = d .others; others-bytes = d .others-bytes }
 
 -- an accepted edit
 edit-done : (h : InHand) (room : ℕ) (e : Edit) → editNo h room e ≡ 0
@@ -192,9 +195,14 @@ call-promised h room e s =
           (λ (z : editNo h room e ≡ 0). rw (after-accepted h room e z) (done-others h room e _ _ (edit-done h room e z) x ids a))
           (λ (d : editNo h room e ≢ 0). rw (after-refused h room e d) (a .walks))
           (same-or (editNo h room e) 0);
+      others-bytes = λ x ids a.
+          ⊎-elim
+          (λ (z : editNo h room e ≡ 0). rw (after-accepted h room e z) (done-others-bytes h room e _ _ (edit-done h room e z) x ids a))
+          (λ (d : editNo h room e ≢ 0). rw (after-refused h room e d))
+          (same-or (editNo h room e) 0);
     }
 
--- Document 01's third demand. Take an image that opened strictly, with any lent tables, and any list of calls. Whatever call comes next, it keeps what is promised of it.
+-- The third demand: of an image that opened strictly, after any list of calls, the next call does what is promised of each. The list may be empty, so that it holds of the first call too, and so of every one in a list.
 pub demand-three : (img : List ℕ) (used : ℕ) (t : Tables) → openNo Strict img used (shortest t) ≡ 0 → (cs : List Call) (room : ℕ) (e : Edit)
     → Promised (afterAll (opened img used t) cs) room e (after (afterAll (opened img used t) cs) room e)
 demand-three img used t z cs room e = call-promised (afterAll (opened img used t) cs) room e (all-sure cs (opened img used t) (opened-sure img used t z))

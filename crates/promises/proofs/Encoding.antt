@@ -7,20 +7,20 @@ use mathlib.Core.Logic.{inl, inr, ⊎-elim, _≢_}
 use native.Mathlib.Omega.{arith}
 use native.Mathlib.Nat.{add-assoc, mod-lt, div-lt-iff-lt-mul}
 use native.Mathlib.Numerals.{add-one}
-use borrow.Author.Tests.{eq-eqb, ne-eqb, eqb-true, lt-ltb, le-ltb, le-leb, lt-leb}
-use lib.Dec.{eqb}
+use borrow.Author.Tests.{eq-eqb, ne-eqb, lt-ltb, le-ltb, le-leb, lt-leb}
 use lib.ListN.{length, getD, drop, length-drop}
 use lib.Seq.{getD-take, getD-drop, length-take-le}
 use Rattle.lists.specs.Lists.{choose, part}
-use Rattle.lists.proofs.Cases.{below-or, same-or, both-true, both-left, both-right}
+use Rattle.lists.proofs.Cases.{below-or, same-or, both-true}
 use Rattle.lists.proofs.Splice.{getD-part}
 use Rattle.lists.proofs.Tab.{length-tab, getD-tab}
 use Rattle.words.specs.Words.{le}
 use Rattle.words.proofs.Laws.{le-ext}
 use Rattle.consts.specs.Consts.{maxRegular, endOfChain, freeSector}
-use Rattle.header.specs.Fields.{fatsAt, difatAt, difatsAt, numberAt, entryAt, listOf, idsIn, allFree, idsThenFree}
+use Rattle.fields.specs.Fields.{fatsAt, difatAt, difatsAt, numberAt, entryAt, listOf, idsIn, allFree, idsThenFree}
+use Rattle.header.proofs.Given.{free-each}
 use Rattle.header.specs.Read.{headerOf, endIfFree}
-use Rattle.header.proofs.Table.{number-is}
+use Rattle.fields.proofs.Table.{number-is}
 use Rattle.sectors.specs.Sectors.{startOf, sectorOf, perSector, entryIn, entryOf}
 use Rattle.fat.specs.Lists.{difatCount}
 use Rattle.fat.proofs.Listing.{ceil-enough}
@@ -41,12 +41,6 @@ ids-count (x ∷ xs) zero l low high = ap (λ (t : Bool). choose t (suc (idsIn x
 ids-count (x ∷ xs) (suc m) l low high =
     let rest : idsIn xs ≡ m = ids-count xs m (omega arith) (λ i h. low (suc i) (omega arith)) (λ i g h. high (suc i) (omega arith) (omega arith)) in
     ap (λ (t : Bool). choose t (suc (idsIn xs)) 0) (le-leb x maxRegular (low 0 (omega arith))) ∙ ap suc rest
-
-free-each : (xs : List ℕ) → allFree xs ≡ true → (i : ℕ) → i < length xs → getD xs i 0 ≡ freeSector
-unfolding allFree
-free-each [] t i h = absurd (omega arith)
-free-each (x ∷ xs) t zero h = eqb-true x freeSector (both-left (eqb x freeSector) (allFree xs) t)
-free-each (x ∷ xs) t (suc i) h = free-each xs (both-right (eqb x freeSector) (allFree xs) t) i (omega arith)
 
 free-all : (xs : List ℕ) → ((i : ℕ) → i < length xs → getD xs i 0 ≡ freeSector) → allFree xs ≡ true
 unfolding allFree

@@ -15,10 +15,10 @@ use Rattle.disk.specs.Disk.{Disk, store, setFat, pushFat, listFat, listDifat, a
 use Rattle.disk.specs.Fits.{FitsNew}
 use Rattle.disk.proofs.Counting.{after-needs, after-not}
 use Rattle.disk.proofs.Fitting.{append-sectors, ready-full, ready-part, ready-sectors, ready-room, new-sectors, reused-sectors}
-use Rattle.moves.specs.Hand.{Hand, point, takenId, takeSector, freeSectorOf, freeRun}
-use Rattle.moves.specs.Fits.{FitsHand}
-use Rattle.moves.proofs.Taking.{take-none, take-one, id-new, id-last}
-use Rattle.moves.proofs.Freeing.{free-none, free-more}
+use Rattle.hand.specs.Hand.{Hand, point, takenId, takeSector, freeSectorOf, freeRun}
+use Rattle.hand.specs.Fits.{FitsHand}
+use Rattle.hand.proofs.Taking.{take-none, take-one, id-new, id-last}
+use Rattle.hand.proofs.Freeing.{free-none, free-more}
 use Rattle.edits.proofs.Growing.{needs-far}
 
 -- an entry set: it is v then, and the others stay
@@ -165,11 +165,11 @@ unfolding appendFat store pushFat listFat
 append-fat-more S d t = place-fat-more S (d .sectors / perSector S) (d .sectors) _ t
 
 -- a new sector's entry
-new-fat : (S : ℕ) (d : Disk) → newSector S d .fat ≡ set (ready S d .fat) (ready S d .sectors) endOfChain
+pub new-fat : (S : ℕ) (d : Disk) → newSector S d .fat ≡ set (ready S d .fat) (ready S d .sectors) endOfChain
 unfolding newSector store pushFat
 new-fat S d = refl
 
-reused-fat : (S : ℕ) (d : Disk) (id : ℕ) → reused S d id .fat ≡ set (d .fat) id endOfChain
+pub reused-fat : (S : ℕ) (d : Disk) (id : ℕ) → reused S d id .fat ≡ set (d .fat) id endOfChain
 unfolding reused store setFat
 reused-fat S d id = refl
 

@@ -1,6 +1,6 @@
 -- The contracts of opening, writing, resizing and freeing leave in hand what the third demand speaks of. Assumes nothing.
 use Prim.Native.Nat.{ℕ}
-use mathlib.Core.Path.{_≡_, refl, sym, _∙_, ap}
+use mathlib.Core.Path.{_≡_, refl, _∙_, ap}
 use mathlib.Core.Bool.{Bool, true, false}
 use mathlib.Core.List.{List}
 use lib.Dec.{eqb}
@@ -8,7 +8,7 @@ use lib.ListN.{length}
 use Rattle.lists.specs.Lists.{choose}
 use Rattle.header.specs.declared.Validation.the-variants.{Strict}
 use Rattle.alloc.specs.Opening.{Tables, openNo, shortest}
-use Rattle.moves.specs.Hand.{Chain}
+use Rattle.hand.specs.Hand.{Chain}
 use Rattle.cfb.specs.Changes.{stateFrom, tablesIn, Changes, ChainWrites, ChainResizes}
 use Rattle.alloc.specs.Opened.{tablesLeft}
 use Rattle.cfb.specs.Face.{tablesOf, stateOf, Opens}

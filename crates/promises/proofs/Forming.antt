@@ -9,10 +9,10 @@ use lib.Seq.{getD-set-same, getD-set-other}
 use Rattle.lists.proofs.Cases.{below-or, same-or}
 use Rattle.consts.specs.Consts.{maxRegular, invalidSector, endOfChain, freeSector}
 use Rattle.disk.specs.Disk.{setFat}
-use Rattle.moves.specs.Hand.{Hand, marked, point, freeSectorOf, freeRun}
-use Rattle.moves.specs.Fits.{FitsHand, FitsFrees}
-use Rattle.moves.proofs.Pointing.{marked-below, marked-past, length-marked}
-use Rattle.moves.proofs.Freeing.{free-none, free-more, free-one-sectors, frees-more}
+use Rattle.hand.specs.Hand.{Hand, marked, point, freeSectorOf, freeRun}
+use Rattle.hand.specs.Fits.{FitsHand, FitsFrees}
+use Rattle.hand.proofs.Pointing.{marked-below, marked-past, length-marked}
+use Rattle.hand.proofs.Freeing.{free-none, free-more, free-one-sectors, frees-more}
 use Rattle.promises.proofs.Entries.{free-others, free-entry, Taken}
 
 -- document 01, 15 to 18: the first n entries of a lent FAT are well formed, and the lent marks are theirs, zero past them

@@ -10,11 +10,11 @@ use Rattle.lists.proofs.Cases.{below-or, same-or}
 use Rattle.consts.specs.Consts.{endOfChain, freeSector}
 use Rattle.fat.specs.Lists.{ceil}
 use Rattle.disk.specs.Needed.{resizeMore, writeMore}
-use Rattle.moves.specs.Hand.{Hand, Chain, takenId, takeSector, freeRun, extendOne, extend}
-use Rattle.moves.specs.Fits.{FitsChain, FitsMore}
+use Rattle.hand.specs.Hand.{Hand, Chain, takenId, takeSector, freeRun, extendOne, extend}
+use Rattle.hand.specs.Fits.{FitsChain, FitsMore}
 use Rattle.moves.specs.Change.{cut, shrink, withImage, idsOf, resized, written, FitsShrink, FitsResize, FitsWrite}
-use Rattle.moves.proofs.Taking.{id-new, id-last}
-use Rattle.moves.proofs.Linking.{linked-none, linked-last, one-count, one-sectors, one-fits, more-room, more-taken, more-place, more-last}
+use Rattle.hand.proofs.Taking.{id-new, id-last}
+use Rattle.hand.proofs.Linking.{linked-none, linked-last, one-count, one-sectors, one-fits, more-room, more-taken, more-place, more-last}
 use Rattle.moves.proofs.Extending.{extend-none, extend-more, extend-fits}
 use Rattle.moves.proofs.Shrinking.{shrink-none, shrink-some, shrink-fits, shrink-count, shrink-sectors, shrink-ids, shrink-last}
 use Rattle.moves.proofs.Staying.{ready-least, one-ids-at, one-ids-last, taken-other}

@@ -9,22 +9,23 @@ use Rattle.lists.proofs.Cases.{below-or, same-or}
 use Rattle.consts.specs.Consts.{difatSector, fatSector, freeSector}
 use Rattle.fat.specs.Lists.{ceil}
 use Rattle.disk.specs.Needed.{resizeMore, writeMore}
-use Rattle.moves.specs.Hand.{Hand, Chain, takenId, takeSector, extendOne, extend}
-use Rattle.moves.specs.Fits.{FitsMore}
+use Rattle.hand.specs.Hand.{Hand, Chain, takenId, takeSector, extendOne, extend}
+use Rattle.hand.specs.Fits.{FitsMore}
 use Rattle.moves.specs.Change.{shrink, withImage, resized, written, FitsResize, FitsWrite}
-use Rattle.moves.proofs.Taking.{take-none, take-one, id-new, id-last}
-use Rattle.moves.proofs.Linking.{linked-none, linked-last, one-sectors, one-free, one-fits, more-room, more-taken, more-last}
+use Rattle.hand.proofs.Taking.{take-none, take-one, id-new, id-last}
+use Rattle.hand.proofs.Linking.{linked-none, linked-last, one-sectors, one-free, one-fits, more-room, more-taken, more-last}
 use Rattle.moves.proofs.Extending.{extend-none, extend-more}
 use Rattle.moves.proofs.Staying.{ready-least, one-frees-at}
 use Rattle.moves.proofs.Changing.{resized-more, resized-fewer, resize-shrink}
 use Rattle.edits.specs.Roles.{Roles, fatsHeld, difatsHeld}
 use Rattle.edits.proofs.Growing.{GrownTo, one-grown}
 use Rattle.edits.proofs.Roles.{one-roles, extend-roles}
+use Rattle.promises.specs.Tails.{Blank}
 use Rattle.promises.specs.Whole.{Formed, Held}
 use Rattle.promises.proofs.Entries.{Taken, take-taken}
 use Rattle.promises.proofs.Graph.{StrungIn, held-strung, taken-none, link-other, link-here, one-strung}
 use Rattle.promises.proofs.Forming.{Pointers, PointersIn, Target, Bare, point-pointers, taken-pointers}
-use Rattle.promises.proofs.Parts.{Listings, Blank, formed-pointers, formed-listings, parts-formed}
+use Rattle.promises.proofs.Parts.{Listings, formed-pointers, formed-listings, parts-formed}
 use Rattle.promises.proofs.Shrinking.{formed-shrunk}
 
 -- a sector taken leaves the marks

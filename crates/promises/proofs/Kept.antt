@@ -1,21 +1,19 @@
 -- What agrees with its image is what a fresh strict opening gives, and an accepted change leaves such a hand: the laws behind the third demand. Assumes nothing.
-use Prim.Native.Nat.{ℕ, _*_, _≤_, _<_}
-use mathlib.Core.Path.{_≡_, refl, sym, _∙_, ap}
-use mathlib.Core.List.{List, [], _∷_, _++_}
-use mathlib.Core.Logic.{⊎-elim, _≢_}
+use Prim.Native.Nat.{ℕ, _≤_, _<_}
+use mathlib.Core.Path.{_≡_, refl, sym, _∙_}
+use mathlib.Core.List.{List}
+use mathlib.Core.Logic.{⊎-elim}
 use native.Mathlib.Omega.{arith}
 use borrow.Author.Tests.{eqb-true}
 use lib.Dec.{eqb}
-use lib.ListN.{length, getD, take}
+use lib.ListN.{length}
 use Rattle.lists.proofs.Cases.{below-or, both-right, every-at}
-use Rattle.header.specs.Fields.{lengthOf}
 use Rattle.header.specs.Read.{headerOf}
 use Rattle.header.specs.declared.Header.{Header}
 use Rattle.header.specs.declared.Validation.{Validation}
 use Rattle.header.specs.declared.Validation.the-variants.{Strict}
-use Rattle.fat.specs.Lists.{sectorsIn, allBelow}
-use Rattle.judge.specs.Judge.{freesOf}
-use Rattle.alloc.specs.Opening.{Tables, openFat, openTables, openNo, shortest, leftIn}
+use Rattle.fat.specs.Lists.{allBelow}
+use Rattle.alloc.specs.Opening.{Tables, openTables, openNo, shortest, leftIn}
 use Rattle.alloc.specs.Opened.{padded, tablesLeft}
 use Rattle.agree.specs.Agree.{occurs, timesFree, anyOrder}
 use Rattle.agree.specs.Agrees.{FreesOnce, Agrees, Permuted}

@@ -6,6 +6,7 @@ pub mod Coding
 pub mod Demand
 pub mod Encoding
 pub mod Entries
+pub mod Examples
 pub mod Following
 pub mod Forming
 pub mod Graph

@@ -15,11 +15,11 @@ use Rattle.chain.specs.Steps.{Linked}
 use Rattle.chain.specs.Walk.{lists, walkOf}
 use Rattle.chain.proofs.Chains.{lists-exactly}
 use Rattle.disk.specs.Needed.{resizeMore, writeMore}
-use Rattle.moves.specs.Hand.{Hand, Chain, takenId, takeSector, linked, extendOne, extend}
-use Rattle.moves.specs.Fits.{FitsChain, FitsMore}
+use Rattle.hand.specs.Hand.{Hand, Chain, takenId, takeSector, linked, extendOne, extend}
+use Rattle.hand.specs.Fits.{FitsChain, FitsMore}
 use Rattle.moves.specs.Change.{shrink, withImage, resized, written, FitsShrink, FitsResize, FitsWrite}
-use Rattle.moves.proofs.Taking.{id-new, id-last, take-sectors-grow}
-use Rattle.moves.proofs.Linking.{linked-none, linked-last, one-count, one-free, one-sectors, one-fits, more-room, more-place}
+use Rattle.hand.proofs.Taking.{id-new, id-last, take-sectors-grow}
+use Rattle.hand.proofs.Linking.{linked-none, linked-last, one-count, one-free, one-sectors, one-fits, more-room, more-place}
 use Rattle.moves.proofs.Extending.{extend-none, extend-more}
 use Rattle.moves.proofs.Shrinking.{shrink-none, shrink-some, shrink-sectors}
 use Rattle.moves.proofs.Staying.{ready-least, one-frees-at, one-ids-at, one-ids-last}

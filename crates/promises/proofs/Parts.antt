@@ -1,5 +1,5 @@
 -- Well-formed tables in parts, over the lent lists: what the entries point at, and what is listed. Assumes nothing.
-use Prim.Native.Nat.{ℕ, _≤_, _<_}
+use Prim.Native.Nat.{ℕ, _<_}
 use mathlib.Core.Path.{_≡_, refl, _∙_, sym, ap}
 use mathlib.Core.Bool.{Bool, true, false}
 use mathlib.Core.Logic.{⊎-elim}
@@ -12,9 +12,10 @@ use Rattle.fat.specs.Lists.{difatCount}
 use Rattle.judge.specs.Judge.{pointed, marksOf}
 use Rattle.judge.proofs.Judging.{pointed-by, pointer-of, markOf, mark-at}
 use Rattle.alloc.proofs.Filled.{length-marks}
-use Rattle.moves.specs.Hand.{Hand, Chain}
-use Rattle.moves.specs.Fits.{FitsHand}
+use Rattle.hand.specs.Hand.{Hand, Chain}
+use Rattle.hand.specs.Fits.{FitsHand}
 use Rattle.edits.specs.Roles.{Roles, fatsHeld, difatsHeld}
+use Rattle.promises.specs.Tails.{Blank}
 use Rattle.promises.specs.Whole.{Formed, fatHeld, fatsList, difatsList}
 use Rattle.promises.proofs.Forming.{PointersIn}
 
@@ -24,10 +25,6 @@ pub record Listings (S : ℕ) (h : Hand) : Type 0 where
   pub difats-marked : (p : ℕ) → p < difatsHeld S (h .disk) → getD (h .disk .fat) (getD (h .disk .difats) p 0) 0 ≡ difatSector
   pub frees-free : (p : ℕ) → p < h .free → getD (h .disk .fat) (getD (h .frees) p 0) 0 ≡ freeSector
   pub frees-all : (i : ℕ) → i < h .disk .sectors → getD (h .disk .fat) i 0 ≡ freeSector → (j : ℕ) × (j < h .free) × (getD (h .frees) j 0 ≡ i)
-
--- document 01, 19: the lent marks are zero past those of the sectors
-abbrev pub Blank : Hand → Type 0
-Blank h = (i : ℕ) → h .disk .sectors ≤ i → getD (h .marks) i 0 ≡ 0
 
 module _ (S R : ℕ) (h : Hand) (f : FitsHand S R h) where
   fat-at : (i : ℕ) → i < h .disk .sectors → getD (fatHeld (h .disk)) i 0 ≡ getD (h .disk .fat) i 0

@@ -12,7 +12,7 @@ use Rattle.lists.specs.Lists.{splice}
 use Rattle.lists.proofs.Cases.{below-or, same-or}
 use Rattle.words.specs.Words.{le, digits}
 use Rattle.consts.specs.Consts.{freeSector}
-use Rattle.header.specs.Fields.{difatAt, entriesAt, offsetOf}
+use Rattle.fields.specs.Fields.{difatAt, entriesAt, offsetOf}
 use Rattle.sectors.specs.Sectors.{startOf, perSector}
 use Rattle.disk.specs.Disk.{entryPlace, linkPlace}
 use Rattle.edits.specs.Roles.{Once, Separate}

@@ -17,7 +17,8 @@ use Rattle.lists.proofs.Rows.{pass, given-none, append-accepts}
 use Rattle.lists.proofs.Splice.{getD-part}
 use Rattle.words.proofs.Laws.{le-ext}
 use Rattle.consts.specs.Consts.{signature}
-use Rattle.header.specs.Fields.{fatsAt, difatAt, majorAt, orderAt, shiftAt, miniAt, dirsAt, dirAt, cutoffAt, minifatAt, minifatsAt, offsetOf, widthOf, numberAt, lengthOf, listOf, idsThenFree, isStrict}
+use Rattle.fields.specs.Fields.{fatsAt, difatAt, majorAt, orderAt, shiftAt, miniAt, dirsAt, dirAt, cutoffAt, minifatAt, minifatsAt, offsetOf, widthOf, numberAt, listOf, idsThenFree}
+use Rattle.header.specs.Versions.{lengthOf, isStrict}
 use Rattle.header.specs.Read.{fixedOf, fixedRows, headerRows, readRows, readNo, headerOf}
 use Rattle.header.specs.declared.judge.Fixed.{Fixed}
 use Rattle.header.specs.declared.Header.{Header}
@@ -34,8 +35,8 @@ use Rattle.alloc.proofs.Filled.{front-padded, length-openFat, length-marks, len
 use Rattle.agree.specs.Agrees.{FreesOnce, Held, Agrees}
 use Rattle.sound.specs.Sound.{Encodes, Sound, Accepts}
 use Rattle.sound.proofs.Sound.{strict-sound, opens-sound}
-use Rattle.moves.specs.Hand.{Hand}
-use Rattle.moves.specs.Fits.{FitsHand}
+use Rattle.hand.specs.Hand.{Hand}
+use Rattle.hand.specs.Fits.{FitsHand}
 use Rattle.cfb.specs.Calls.{stateLen}
 use Rattle.cfb.specs.Changes.{changeNo, chainFrom}
 use Rattle.cfb.specs.declared.State.{State}

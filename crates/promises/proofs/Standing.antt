@@ -12,7 +12,7 @@ use Rattle.lists.proofs.Cases.{same-or}
 use Rattle.words.specs.Words.{le, digits}
 use Rattle.words.proofs.Laws.{length-digits}
 use Rattle.consts.specs.Consts.{freeSector}
-use Rattle.header.specs.Fields.{fatsAt, difatAt, difatsAt, entriesAt, offsetOf}
+use Rattle.fields.specs.Fields.{fatsAt, difatAt, difatsAt, entriesAt, offsetOf}
 use Rattle.sectors.specs.Sectors.{startOf, perSector}
 use Rattle.sectors.specs.Init.{initBytes}
 use Rattle.sectors.specs.declared.init.SectorInit.{SectorInit}

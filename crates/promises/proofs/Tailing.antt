@@ -16,20 +16,20 @@ use Rattle.disk.specs.Fits.{FitsNew}
 use Rattle.disk.specs.Needed.{resizeMore, writeMore}
 use Rattle.disk.proofs.Counting.{difat-suc, after-needs, after-not}
 use Rattle.disk.proofs.Fitting.{append-sectors, ready-full, ready-part, new-many, new-sectors, count-full, reused-sectors, one-more-grows}
-use Rattle.moves.specs.Hand.{Hand, Chain, marked, point, takenId, takeSector, freeSectorOf, freeRun, linked, extendOne, extend}
-use Rattle.moves.specs.Fits.{FitsHand, FitsFrees, FitsMore}
+use Rattle.hand.specs.Hand.{Hand, Chain, marked, point, takenId, takeSector, freeSectorOf, freeRun, linked, extendOne, extend}
+use Rattle.hand.specs.Fits.{FitsHand, FitsFrees, FitsMore}
 use Rattle.moves.specs.Change.{shrink, withImage, resized, written, FitsShrink, FitsResize, FitsWrite}
-use Rattle.moves.proofs.Pointing.{marked-below, marked-past}
-use Rattle.moves.proofs.Taking.{take-none, take-one}
-use Rattle.moves.proofs.Freeing.{free-none, free-more, frees-more}
-use Rattle.moves.proofs.Linking.{linked-none, linked-last, one-fits, more-room, more-last}
+use Rattle.hand.proofs.Pointing.{marked-below, marked-past}
+use Rattle.hand.proofs.Taking.{take-none, take-one}
+use Rattle.hand.proofs.Freeing.{free-none, free-more, frees-more}
+use Rattle.hand.proofs.Linking.{linked-none, linked-last, one-fits, more-room, more-last}
 use Rattle.moves.proofs.Extending.{extend-none, extend-more}
 use Rattle.moves.proofs.Shrinking.{shrink-none, shrink-some, shrink-last, shrink-frees}
 use Rattle.moves.proofs.Changing.{resized-more, resized-fewer, resize-shrink}
 use Rattle.edits.specs.Roles.{Roles, fatsHeld, difatsHeld}
 use Rattle.edits.proofs.Growing.{GrownTo, needs-far, append-fats, append-difats-same, append-difats-more, new-fats, new-grown, reused-lists}
 use Rattle.promises.specs.Tails.{Tailed}
-use Rattle.promises.proofs.Entries.{append-fat-same, append-fat-more}
+use Rattle.promises.proofs.Entries.{append-fat-same, append-fat-more, new-fat, reused-fat}
 
 -- a list is zero from a place on
 abbrev Zeros : List ℕ → ℕ → Type 0
@@ -100,13 +100,9 @@ run-tailed S R i (suc c) ids h f t =
     (run-tailed S R (suc i) c ids (freeSectorOf S h (getD ids i 0)) (frees-more S R i c ids h f) (free-tailed S h (getD ids i 0) (f .within i (omega arith)) t))
 
 -- a new sector's entry is the last, behind those of the FAT sector and the DIFAT sector that come before it
-new-fat : (S : ℕ) (d : Disk) → (newSector S d .fat ≡ set (ready S d .fat) (ready S d .sectors) endOfChain) × (newSector S d .sectors ≡ suc (ready S d .sectors))
+new-last : (S : ℕ) (d : Disk) → newSector S d .sectors ≡ suc (ready S d .sectors)
 unfolding newSector store pushFat
-new-fat S d = (refl, refl)
-
-reused-fat : (S : ℕ) (d : Disk) (id : ℕ) → reused S d id .fat ≡ set (d .fat) id endOfChain
-unfolding reused store setFat
-reused-fat S d id = refl
+new-last S d = refl
 
 ready-zeros : (S : ℕ) (d : Disk) → Zeros (d .fat) (d .sectors) → Zeros (ready S d .fat) (ready S d .sectors)
 ready-zeros S d z =
@@ -130,8 +126,8 @@ ready-zeros S d z =
 
 new-zeros : (S : ℕ) (d : Disk) → Zeros (d .fat) (d .sectors) → Zeros (newSector S d .fat) (newSector S d .sectors)
 new-zeros S d z =
-    zeros-set (ready S d .fat) (newSector S d .fat) (ready S d .sectors) (newSector S d .sectors) (ready S d .sectors) endOfChain (new-fat S d .0)
-    (omega (arith, new-fat S d .1)) (omega (arith, new-fat S d .1)) (ready-zeros S d z)
+    zeros-set (ready S d .fat) (newSector S d .fat) (ready S d .sectors) (newSector S d .sectors) (ready S d .sectors) endOfChain (new-fat S d)
+    (omega (arith, new-last S d)) (omega (arith, new-last S d)) (ready-zeros S d z)
 
 -- the lists of the FAT and the DIFAT get at most the place behind their last
 module _ (S R : ℕ) (d : Disk) (f : FitsNew S R d) where

@@ -20,8 +20,8 @@ use Rattle.alloc.proofs.Filled.{front-padded, length-marks}
 use Rattle.chain.specs.Steps.{Linked, Unpointed}
 use Rattle.chain.specs.Walk.{lists, walkOf}
 use Rattle.chain.proofs.Chains.{lists-exactly}
-use Rattle.moves.specs.Hand.{Chain}
-use Rattle.moves.specs.Fits.{FitsChain}
+use Rattle.hand.specs.Hand.{Chain}
+use Rattle.hand.specs.Fits.{FitsChain}
 use Rattle.moves.specs.Change.{idsOf}
 use Rattle.moves.proofs.Changing.{chain-listed, chain-id}
 use Rattle.cfb.specs.Calls.{stateLen, agreedRows, walkRows, chainIds}
@@ -32,10 +32,10 @@ use Rattle.cfb.proofs.Ending.{start-none, start-some}
 use Rattle.cfb.proofs.Lying.{lists-chain}
 use Rattle.cfb.proofs.Ready.{agrees, strict-mode, chain-zero, chained, frees, id-below}
 use Rattle.cfb.proofs.Refusing.{padded-front}
+use Rattle.promises.specs.Tails.{Blank}
 use Rattle.promises.specs.Whole.{Formed, Held, fatHeld}
 use Rattle.promises.proofs.Base.{agreed-formed}
 use Rattle.promises.proofs.Graph.{getD-any, held-length}
-use Rattle.promises.proofs.Parts.{Blank}
 
 -- past a list that zeros follow there are zeros
 pub zero-past : (xs : List ℕ) (m i : ℕ) → length xs ≤ i → getD (padded xs m) i 0 ≡ 0

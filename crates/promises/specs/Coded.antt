@@ -7,7 +7,7 @@ use lib.ListN.{getD}
 use Rattle.lists.specs.Lists.{choose}
 use Rattle.words.specs.Words.{le}
 use Rattle.consts.specs.Consts.{freeSector}
-use Rattle.header.specs.Fields.{fatsAt, difatsAt, entriesAt, offsetOf}
+use Rattle.fields.specs.Fields.{fatsAt, difatsAt, entriesAt, offsetOf}
 use Rattle.sectors.specs.Sectors.{startOf, perSector}
 use Rattle.sound.specs.Sound.{Ends}
 use Rattle.disk.specs.Disk.{Disk, entryPlace, linkPlace}

@@ -1,4 +1,4 @@
--- What the customer's third demand speaks of: edits, what is in hand between two calls, and what a call makes of it, by the definitions that the contracts cite. Assumes nothing.
+-- What the third demand speaks of: edits, what is in hand between two calls, and what a call makes of it, by the definitions that the contracts cite. Assumes nothing.
 use Prim.Native.Nat.{ℕ, _*_, _≤_, _<_}
 use mathlib.Core.Path.{_≡_}
 use mathlib.Core.List.{List, [], _∷_, _++_}
@@ -12,10 +12,10 @@ use Rattle.sectors.specs.Sectors.{sectorOf}
 use Rattle.alloc.specs.Opening.{Tables, openNo, shortest}
 use Rattle.alloc.specs.Opened.{padded, tablesLeft}
 use Rattle.agree.specs.Agrees.{Permuted}
-use Rattle.chain.specs.Walk.{Outcome, lists}
+use Rattle.chain.specs.Walk.{lists}
 use Rattle.chain.specs.Bytes.{chainBytes}
 use Rattle.disk.specs.Needed.{writeMore}
-use Rattle.moves.specs.Hand.{Chain}
+use Rattle.hand.specs.Hand.{Chain}
 use Rattle.moves.specs.Change.{resized, written}
 use Rattle.edits.specs.Roles.{fatsHeld, difatsHeld}
 use Rattle.cfb.specs.Calls.{stateLen, walked, chainIds}
@@ -23,13 +23,13 @@ use Rattle.cfb.specs.Changes.{resizeNo, writeNo, chainFrom, stateFrom, tablesIn
 use Rattle.cfb.specs.Face.{tablesOf, stateOf}
 use Rattle.cfb.specs.declared.State.{State}
 
--- "image, state and tables handed on untouched between calls": what is in hand, each lent buffer over its whole length
+-- what the caller hands on from one call to the next, unchanged: the state, and the lent image and tables over their whole lengths
 pub record InHand : Type 0 where
   pub state : State
   pub image : List ℕ
   pub tables : Tables
 
--- "writes, resizes and frees, each naming a chain by its first sector or the empty chain", which END names
+-- a change that is asked for. It names its chain by the first sector, or by END the chain that has none
 pub data Edit : Type 0 where
   write : (start offset : ℕ) (buf : List ℕ) → Edit
   resize : (start len : ℕ) → Edit
@@ -41,7 +41,7 @@ named (write start offset buf) = start
 named (resize start len) = start
 named (free start) = start
 
--- the number that the call ends with, by document 01's table; an id list of so many places is lent. It is 0 exactly where no row stands against it (cfb, Exactly), so no call may refuse at will.
+-- the number that the call ends with, by document 01's table, where an id list of so many places is lent. The tables leave no choice: it is 0 exactly where no row stands against the call (cfb, Exactly), so that idling on refusals is no way to keep the promise.
 abbrev pub editNo : InHand → ℕ → Edit → ℕ
 editNo h room (write start offset buf) = writeNo (h .state) (h .image) (h .tables) room start offset (length buf)
 editNo h room (resize start len) = resizeNo (h .state) (h .image) (h .tables) room start len
@@ -72,7 +72,7 @@ pub record Call : Type 0 where
   pub room : ℕ
   pub edit : Edit
 
--- "any list of writes, resizes and frees, refused ones among them"
+-- what is in hand after a list of calls, some of which may have been refused
 unfoldable pub afterAll : InHand → List Call → InHand
 unfolding after
 afterAll h [] = h
@@ -94,13 +94,13 @@ bytesFrom h x = chainBytes (stateLen (h .state)) (h .image) (idsFrom h x)
 abbrev pub startAfter : InHand → ℕ → Edit → ℕ
 startAfter h room e = startIn (chainAfter h room e .ids) (chainAfter h room e .count)
 
--- "exactly that edit", of the bytes of a chain of sectors of S bytes: a write has zeros past the old end and the buffer over them from the offset on; a resize keeps the bytes below the new length and has zeros from there to the end of its sectors; a free leaves none
+-- what an edit makes of a chain's old bytes, count sectors of S bytes: a write puts zeros past their end, as far as whole sectors go, and the buffer over them from the offset on; a resize keeps those below the new length and has zeros from there to the end of its sectors; a free leaves none
 abbrev pub edited : ℕ → Edit → List ℕ → ℕ → List ℕ
 edited S (write start offset buf) old count = splice (old ++ replicate (S * writeMore S count offset (length buf)) 0) offset buf
 edited S (resize start len) old count = padded (take len old) (S * ceil len S)
 edited S (free start) old count = []
 
--- "a fresh strict opening of the bytes gives the state, FAT, lists and marks in hand, the free list in some order", with tables as long as those in hand
+-- the bytes in hand open strictly, in tables as long as those in hand, and what that opening leaves is what is in hand; the free list may stand in another order
 pub record Fresh (h : InHand) : Type 0 where
   pub opens : openNo Strict (h .image) (h .state .used) (shortest (h .tables)) ≡ 0
   pub state : opened (h .image) (h .state .used) (h .tables) .state ≡ h .state
@@ -126,13 +126,15 @@ pub record Another (h : InHand) (e : Edit) (x : ℕ) (ids : List ℕ) : Type 0 w
 
 -- the clauses of the demand about one call, which leaves h' in hand
 pub record Promised (h : InHand) (room : ℕ) (e : Edit) (h' : InHand) : Type 0 where
-  -- "After each call a fresh strict opening of the bytes gives the state, FAT, lists and marks in hand, the free list in some order."
+  -- accepted or refused, the bytes in hand open afresh to what is in hand
   pub fresh : Fresh h'
-  -- "After an accepted call the named chain holds its old bytes with exactly that edit;"
+  -- accepted: the chain from the start that is answered has the old bytes of the named one, edited as asked and in no other way
   pub exactly : editNo h room e ≡ 0 → bytesFrom h' (startAfter h room e) ≡ edited (stateLen (h .state)) e (bytesFrom h (named e)) (length (idsFrom h (named e)))
-  -- "a refused one leaves every chain as it was."
+  -- refused: state, image and tables are as they were, and with them every chain
   pub refused : editNo h room e ≢ 0 → h' ≡ h
-  -- "Every sector neither free before nor in the named chain keeps its bytes, apart from FAT and DIFAT sectors,"
+  -- a sector that was in use, but not by the named chain, the FAT or the DIFAT, has the bytes it had
   pub elsewhere : (i : ℕ) → Elsewhere h room e i → sectorOf (stateLen (h .state)) (h' .image) i ≡ sectorOf (stateLen (h .state)) (h .image) i
-  -- "and every other chain keeps its sectors in order."
+  -- any other chain lists the sectors it listed, in their order,
   pub others : (x : ℕ) (ids : List ℕ) → Another h e x ids → walked (h' .state) (h' .tables) x ≡ lists ids
+  -- with the bytes they had
+  pub others-bytes : (x : ℕ) (ids : List ℕ) → Another h e x ids → chainBytes (stateLen (h .state)) (h' .image) ids ≡ chainBytes (stateLen (h .state)) (h .image) ids

@@ -8,7 +8,7 @@ use Rattle.judge.specs.Judge.{marksOf}
 use Rattle.chain.specs.Steps.{Linked, Unpointed}
 use Rattle.agree.specs.Agrees.{FreesOnce}
 use Rattle.sound.specs.Sound.{WellFormed}
-use Rattle.moves.specs.Hand.{Hand, Chain}
+use Rattle.hand.specs.Hand.{Hand, Chain}
 use Rattle.moves.specs.Change.{idsOf}
 use Rattle.disk.specs.Disk.{Disk}
 use Rattle.edits.specs.Roles.{fatsHeld, difatsHeld}

@@ -8,7 +8,7 @@ use lib.Dec.{leb}
 use lib.ListN.{length}
 use Rattle.lists.specs.Lists.{choose, both}
 use Rattle.lists.proofs.Cases.{both-true, both-false-left, both-false-right}
-use Rattle.header.specs.Fields.{holdsNumber, numberAt}
+use Rattle.fields.specs.Fields.{holdsNumber, numberAt}
 use Rattle.reader.specs.Serve.{servedAt, placeAfter, stepped}
 use Rattle.reader.specs.declared.Reader.{Reader}
 

@@ -4,7 +4,7 @@ use mathlib.Core.List.{List}
 use lib.Dec.{leb, ltb}
 use lib.ListN.{length}
 use Rattle.lists.specs.Lists.{choose, both}
-use Rattle.header.specs.Fields.{holdsNumber, numberAt}
+use Rattle.fields.specs.Fields.{holdsNumber, numberAt}
 use Rattle.reader.specs.declared.Reader.{Reader}
 
 -- the number in field i of b; 0 where b is shorter than a header, and where the table has no number at i

@@ -1,11 +1,11 @@
 // A reader that holds a lent header and its place in the table of fields (MS-CFB 2.2). Its functions take it apart
 // and call those over a slice and a place; a caller of `number_of` sees no reader at all.
-use header::fields::ENTRIES;
-use header::fields::MINOR;
-use header::fields::RESERVED;
-use header::fields::number_at;
+use fields::ENTRIES;
+use fields::MINOR;
+use fields::RESERVED;
+use fields::number_at;
 ghost use mathlib.Core.Path.{_≡_};
-ghost use Rattle.header.specs.Fields.{holdsNumber};
+ghost use Rattle.fields.specs.Fields.{holdsNumber};
 ghost use Rattle.reader.specs.Serve.{servedAt, placeAfter, stepped};
 
 // The bytes that are read, and the place in the table of the field that comes next.

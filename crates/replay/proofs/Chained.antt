@@ -18,8 +18,10 @@ use Rattle.cfb.specs.declared.State.{State}
 use Rattle.cfb.specs.declared.Opened.{Opened}
 use Rattle.cfb.specs.declared.Called.{Called}
 use Rattle.cfb.proofs.Facing.{verdict-number}
-use Rattle.replay.specs.Records.{lengthIn, numberIn, modeIn, numbersIn, placeIn, sectorBytes, imageIn, lentTables, startIn, lentIds, CalledAs, ChainedAs, ChainAgrees}
-use Rattle.replay.proofs.Opened.{lent-shortest}
+use Rattle.records.specs.Records.{lengthIn, numberIn, modeIn, numbersIn}
+use Rattle.openings.specs.Openings.{placeIn, sectorBytes, imageIn, lentTables}
+use Rattle.replay.specs.Agrees.{startIn, lentIds, CalledAs, ChainedAs, ChainAgrees}
+use Rattle.openings.proofs.Opened.{lent-shortest}
 
 -- the number that is told of a call that ends with k
 told-number : (k ids start bytes : ℕ) → getD (told k ids start bytes) 0 0 ≡ k

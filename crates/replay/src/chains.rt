@@ -1,18 +1,18 @@
 // The calls on the list: the image that a record describes is opened, and then a chain of it from a start.
-use crate::openings::RUBBISH;
-use crate::openings::put_sectors;
-use crate::openings::same_table;
-use crate::records::length_in;
-use crate::records::mode_in;
-use crate::records::number_in;
 use cfb::Answer;
 use cfb::State;
+use openings::RUBBISH;
+use openings::put_sectors;
+use openings::same_table;
+use records::length_in;
+use records::mode_in;
+use records::number_in;
 ghost use mathlib.Core.Path.{_≡_};
 ghost use mathlib.Core.Bool.{true};
 ghost use lib.ListN.{length, getD};
 ghost use Rattle.cfb.specs.Calls.{toldBy};
-ghost use Rattle.alloc.specs.Opening.{Tables};
-ghost use Rattle.replay.specs.Records.{numberIn, CalledAs, ChainedAs, ChainAgrees};
+ghost use Rattle.records.specs.Records.{numberIn};
+ghost use Rattle.replay.specs.Agrees.{CalledAs, ChainedAs, ChainAgrees};
 
 // The number of an answer: 0 where the chain opens.
 fn number_told(answer: Answer) -> u32

@@ -1,14 +1,19 @@
 // Replays a list of the Rust's answers with no Rust at hand: reads records of 1,024 bytes, has the library answer each again,
 // and says how many answers there are and which differ.
-mod answers;
 mod chains;
-mod openings;
-mod records;
 
-use answers::same_answer;
+use answers::same_list;
+use answers::same_read;
+use answers::same_write;
+use chains::same_chain;
 use libc::STDIN_FILENO;
 use libc::STDOUT_FILENO;
+use openings::same_open;
+use records::RECORD;
+ghost use mathlib.Core.Path.{_≡_};
+ghost use mathlib.Core.Bool.{true};
 ghost use Prim.Native.Nat.{_≤_};
+ghost use Rattle.replay.specs.Agrees.{Agrees};
 
 // How many records are replayed at most: nothing says that the input ends.
 const MOST: u64 = 100_000;
@@ -24,6 +29,36 @@ enum Replayed {
 struct Sum {
     answers: u64,
     differ: u64,
+}
+
+// Whether the library gives the answer that a record holds. What is no record, or of no known kind, differs.
+fn same_answer(case: &[u8]) -> bool
+    ensures { λ r. ⌜ (r ≡ true → Agrees (now (case .entry))) ⌝ }
+{
+    if case.len() != RECORD {
+        return false;
+    }
+    let kind = case[0];
+    match kind {
+        b'R' => {
+            return same_read(case);
+        }
+        b'W' => {
+            return same_write(case);
+        }
+        b'P' => {
+            return same_list(case);
+        }
+        b'O' => {
+            return same_open(case);
+        }
+        b'C' => {
+            return same_chain(case);
+        }
+        _ => {
+            return false;
+        }
+    }
 }
 
 // Reads one record and replays it; a short read ends the list.

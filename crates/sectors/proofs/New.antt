@@ -11,8 +11,8 @@ use Rattle.lists.proofs.Splice.{length-part, length-splice, is-splice, splice-a
 use Rattle.words.specs.Words.{digits}
 use Rattle.words.proofs.Laws.{length-digits}
 use Rattle.consts.specs.Consts.{endOfChain, freeSector}
-use Rattle.header.specs.Write.{listBytes}
-use Rattle.header.proofs.Listed.{length-listBytes, listBytes-snoc}
+use Rattle.fields.specs.Fields.{listBytes}
+use Rattle.fields.proofs.Listed.{length-listBytes, listBytes-snoc}
 use Rattle.sectors.specs.Sectors.{startOf, sectorOf, perSector}
 use Rattle.sectors.specs.Init.{initBytes}
 use Rattle.sectors.specs.declared.init.SectorInit.{SectorInit}

@@ -3,7 +3,7 @@ use Prim.Native.Nat.{ℕ, _-_}
 use mathlib.Core.List.{List, [], _∷_, _++_}
 use lib.ListN.{replicate}
 use Rattle.consts.specs.Consts.{endOfChain, freeSector}
-use Rattle.header.specs.Write.{listBytes}
+use Rattle.fields.specs.Fields.{listBytes}
 use Rattle.sectors.specs.Sectors.{perSector}
 use Rattle.sectors.specs.declared.init.SectorInit.{SectorInit}
 use Rattle.sectors.specs.declared.init.SectorInit.the-variants.{Zero, Fat, Difat}

@@ -12,7 +12,7 @@ use lib.ListN.{length, getD}
 use Rattle.lists.proofs.Cases.{below-or, both-true, both-left, both-right, either-cases, either-right, every-at, every-of}
 use Rattle.lists.proofs.Tab.{length-tab, getD-tab, is-tab}
 use Rattle.consts.specs.Consts.{endOfChain, freeSector}
-use Rattle.header.specs.Fields.{idsIn}
+use Rattle.fields.specs.Fields.{idsIn}
 use Rattle.header.specs.declared.Header.{Header}
 use Rattle.sectors.specs.Sectors.{perSector, entryOf}
 use Rattle.fat.specs.Lists.{fatCount, difatCount, difatAt, placeAt, difatsOf, fatsOf, fatOf, allBelow, different, ends, countsRight, chainRight, restFree, idsRight, fatsRight, difatsIn, fatsIn, listsRight, tailFree}

@@ -14,7 +14,7 @@ use Rattle.lists.proofs.Cases.{refuted, both-fails, every-fails, one-other, oth
 use Rattle.lists.proofs.Exactly.{_▸_, exactly, accepted, explained-by, explained-append, tested-append, tested-easier}
 use Rattle.lists.proofs.Tab.{length-tab, getD-tab}
 use Rattle.consts.specs.Consts.{maxRegular, invalidSector, difatSector, freeSector}
-use Rattle.header.specs.Fields.{isStrict}
+use Rattle.header.specs.Versions.{isStrict}
 use Rattle.header.specs.Read.{headerRows, readRows, headerOf}
 use Rattle.header.specs.Causes.{Cause}
 use Rattle.header.specs.declared.Validation.{Validation}

@@ -8,7 +8,7 @@ use native.Mathlib.Omega.{arith}
 use borrow.Author.Tests.{not-false}
 use Rattle.lists.specs.Rows.{refusal, distinct, fresh}
 use Rattle.lists.proofs.Rows.{pass, given-none, append-accepts}
-use Rattle.header.specs.Fields.{lengthOf}
+use Rattle.header.specs.Versions.{lengthOf}
 use Rattle.header.specs.Read.{headerRows, headerOf}
 use Rattle.header.specs.declared.Header.{Header}
 use Rattle.header.specs.declared.Validation.the-variants.{Strict}

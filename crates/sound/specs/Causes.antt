@@ -5,7 +5,8 @@ use mathlib.Core.List.{List}
 use mathlib.Core.Logic.{_≢_}
 use lib.ListN.{length, getD}
 use Rattle.consts.specs.Consts.{maxRegular, invalidSector, difatSector, fatSector, endOfChain, freeSector}
-use Rattle.header.specs.Fields.{lengthOf, idsIn}
+use Rattle.fields.specs.Fields.{idsIn}
+use Rattle.header.specs.Versions.{lengthOf}
 use Rattle.header.specs.Read.{headerOf}
 use Rattle.header.specs.Causes.{Cause}
 use Rattle.header.specs.declared.Validation.{Validation}

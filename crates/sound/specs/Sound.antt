@@ -7,7 +7,8 @@ use mathlib.Core.Logic.{_⊎_, _≢_}
 use lib.ListN.{length, getD}
 use Rattle.lists.specs.Rows.{refusal}
 use Rattle.consts.specs.Consts.{maxRegular, invalidSector, difatSector, fatSector, endOfChain, freeSector}
-use Rattle.header.specs.Fields.{idsIn, lengthOf}
+use Rattle.fields.specs.Fields.{idsIn}
+use Rattle.header.specs.Versions.{lengthOf}
 use Rattle.header.specs.Read.{headerOf}
 use Rattle.header.specs.declared.Header.{Header}
 use Rattle.sectors.specs.Sectors.{sectorOf, perSector, entryIn, entryOf}

@@ -1,7 +1,7 @@
 -- `main` is safe, and what it hands over to be written is the listing of what was read: the text stands at the front of its buffer. Assumes nothing.
 use mathlib.Core.Path.{sym}
 use lib.Seq.{length-take-le}
-use Rattle.list.proofs.Opened.{put-front}
+use Rattle.listing.proofs.Opened.{put-front}
 use borrow.Author.Needs.{needs}
 use Rattle.list.proofs.main.Statement.{statement}
 use Rattle.list.proofs.main.Tie as tie

@@ -5,7 +5,7 @@ use mathlib.Core.Bool.{true}
 use borrow.Author.Tests.{not-true, not-false}
 use borrow.Author.Needs.{needs}
 use lib.ListN.{length}
-use Rattle.header.specs.Fields.{holdsNumber}
+use Rattle.fields.specs.Fields.{holdsNumber}
 use Rattle.reader.proofs.Serving.{served-is, served-short, served-none}
 use Rattle.reader.proofs.served.Statement.{statement}
 use Rattle.reader.proofs.served.Tie as tie

@@ -4,7 +4,7 @@ use mathlib.Core.Path.{_≡_, refl}
 use native.Mathlib.Omega.{arith}
 use lib.ListN.{length, getD}
 use Rattle.lists.specs.Lists.{every}
-use Rattle.agree.proofs.Comparing.{flag-more}
+use Rattle.points.proofs.Testing.{flag-more}
 use lib.Dec.{eqb}
 use Rattle.agree.specs.Parts.{allZero}
 use Rattle.agree.proofs.alike.zeros.Statement.{statement}

@@ -6,7 +6,7 @@ use lib.Dec.{eqb}
 use lib.ListN.{length, getD}
 use Rattle.lists.specs.Lists.{every}
 use Rattle.judge.specs.Judge.{forgiven, forgivenFat}
-use Rattle.agree.proofs.Comparing.{flag-more, same-tab}
+use Rattle.points.proofs.Testing.{flag-more, same-tab}
 use borrow.Author.Needs.{needs}
 use Rattle.agree.proofs.tables.is_forgiven.Statement.{statement}
 use Rattle.agree.proofs.tables.is_forgiven.Tie as tie

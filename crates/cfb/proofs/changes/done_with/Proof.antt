@@ -2,7 +2,7 @@
 use Prim.Native.Nat.{_+_}
 use mathlib.Core.Path.{_≡_, _∙_, ap}
 use native.Mathlib.Omega.{arith}
-use Rattle.header.specs.Fields.{lengthOf}
+use Rattle.header.specs.Versions.{lengthOf}
 use Rattle.sectors.proofs.Laws.{scaled}
 use Rattle.cfb.specs.Calls.{stateLen}
 use Rattle.cfb.proofs.Ending.{used-own, done-as}

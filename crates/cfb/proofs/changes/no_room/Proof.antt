@@ -1,7 +1,7 @@
 -- What is free needs no room; the rest is counted against it.
 use mathlib.Core.Path.{_≡_, _∙_, ap}
 use native.Mathlib.Omega.{arith}
-use Rattle.header.specs.Fields.{lengthOf}
+use Rattle.header.specs.Versions.{lengthOf}
 use Rattle.header.specs.declared.Version.{Version}
 use Rattle.fat.specs.Lists.{roomOf}
 use Rattle.cfb.specs.Calls.{stateLen}

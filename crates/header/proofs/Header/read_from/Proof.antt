@@ -9,7 +9,7 @@ use lib.ListN.{length}
 use Rattle.lists.specs.Lists.{part, sameList}
 use Rattle.lists.specs.Rows.{Row, refusal}
 use Rattle.consts.specs.Consts.{signature}
-use Rattle.header.specs.Fields.{listOf, idsThenFree}
+use Rattle.fields.specs.Fields.{listOf, idsThenFree}
 use Rattle.header.specs.Read.{fixedOf, fixedRows, readNumber, headerOf}
 use Rattle.header.specs.declared.judge.Fixed.{Fixed}
 use Rattle.header.specs.declared.Header.{Header}

@@ -3,9 +3,9 @@ use mathlib.Core.Path.{_≡_, sym, _∙_, ap}
 use Prim.Native.Nat.{ℕ}
 use lib.ListN.{length}
 use native.Mathlib.Omega.{arith}
-use Rattle.header.specs.Fields.{majorOf}
+use Rattle.header.specs.Versions.{majorOf}
 use Rattle.header.specs.Read.{countsDirs}
-use Rattle.header.specs.Write.{unreadable}
+use Rattle.fields.specs.Fields.{unreadable}
 use Rattle.header.specs.declared.Validation.the-variants.{Strict}
 use Rattle.header.specs.declared.WriteVerdict.the-variants.{Short, Directories, Entries}
 use Rattle.header.proofs.Writing.{gives-1, gives-7, gives-9, gives-0, says-no, says-yes, header-stored}

@@ -1,6 +1,6 @@
 -- Field by field: each is what its own call gives, and the definition reads the same fields.
 use mathlib.Core.Path.{_∙_, ap, ap₂}
-use Rattle.header.specs.Fields.{versionOf}
+use Rattle.header.specs.Versions.{versionOf}
 use Rattle.header.specs.Read.{dirsOf, endIfFree, headerOf}
 use borrow.Author.Needs.{needs}
 use Rattle.header.proofs.content.content.Statement.{statement}

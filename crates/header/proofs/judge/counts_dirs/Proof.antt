@@ -1,7 +1,7 @@
 -- The three tests are the definition's, in its order.
 use mathlib.Core.Path.{_≡_, sym, _∙_}
 use mathlib.Core.Bool.{true}
-use Rattle.header.specs.Fields.{isStrict}
+use Rattle.header.specs.Versions.{isStrict}
 use borrow.Author.Tests.{eq-eqb, ne-eqb, not-true, not-false}
 use Rattle.header.specs.Read.{countsDirs}
 use borrow.Author.Needs.{needs}

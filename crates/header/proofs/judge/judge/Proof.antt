@@ -4,7 +4,7 @@ use mathlib.Core.List.{List}
 use Rattle.lists.specs.Rows.{Row}
 use Rattle.lists.proofs.Cases.{alike, unlike}
 use Rattle.lists.proofs.Rows.{Passed, passed-none, passed-more, passed-given, passed-all}
-use Rattle.header.specs.Fields.{shiftOf, versionOf}
+use Rattle.header.specs.Versions.{shiftOf, versionOf}
 use Rattle.header.specs.Read.{fixedRows}
 use borrow.Author.Needs.{needs}
 use Rattle.header.proofs.judge.judge.Statement.{statement}

@@ -1,6 +1,6 @@
 -- The test of the major version is the definition's own, on both sides.
 use borrow.Author.Tests.{eq-eqb, ne-eqb}
-use Rattle.header.specs.Fields.{versionOf}
+use Rattle.header.specs.Versions.{versionOf}
 use Rattle.header.proofs.judge.version_of.Statement.{statement}
 use Rattle.header.proofs.judge.version_of.Tie as tie
 

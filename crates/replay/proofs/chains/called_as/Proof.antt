@@ -1,7 +1,7 @@
 -- `chains::called_as` meets its contract: the call's own, and the comparisons that were passed. Assumes nothing.
 use Rattle.lists.specs.Lists.{part}
-use Rattle.replay.specs.Records.{startIn, lentIds}
-use Rattle.replay.proofs.Held.{never, not-false}
+use Rattle.replay.specs.Agrees.{startIn, lentIds}
+use Rattle.records.proofs.Held.{never, not-false}
 use Rattle.replay.proofs.Chained.{called-agrees}
 use borrow.Author.Needs.{needs}
 use Rattle.replay.proofs.chains.called_as.Statement.{statement}

@@ -1,7 +1,7 @@
 -- `chains::chained_as` meets its contract: the opening's own, which accepts, and that of the call on what it gave. Assumes nothing.
 use mathlib.Core.Path.{_∙_, sym}
-use Rattle.replay.specs.Records.{lentTables}
-use Rattle.replay.proofs.Held.{never}
+use Rattle.openings.specs.Openings.{lentTables}
+use Rattle.records.proofs.Held.{never}
 use Rattle.replay.proofs.Chained.{chained-agrees}
 use borrow.Author.Needs.{needs}
 use Rattle.replay.proofs.chains.chained_as.Statement.{statement}

@@ -2,8 +2,8 @@
 use mathlib.Core.Path.{refl, sym}
 use native.Mathlib.Omega.{arith}
 use lib.Seq.{length-take-le}
-use Rattle.replay.specs.Records.{placeIn}
-use Rattle.replay.proofs.Held.{never}
+use Rattle.openings.specs.Openings.{placeIn}
+use Rattle.records.proofs.Held.{never}
 use Rattle.replay.proofs.Chained.{chain-agrees}
 use borrow.Author.Needs.{needs}
 use Rattle.replay.proofs.chains.same_chain.Statement.{statement}

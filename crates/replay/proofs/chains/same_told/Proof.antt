@@ -2,7 +2,7 @@
 use mathlib.Core.Path.{_∙_, sym}
 use native.Mathlib.Omega.{arith}
 use lib.Dec.{eqb→eq}
-use Rattle.replay.proofs.Held.{never}
+use Rattle.records.proofs.Held.{never}
 use borrow.Author.Needs.{needs}
 use Rattle.replay.proofs.chains.same_told.Statement.{statement}
 use Rattle.replay.proofs.chains.same_told.Tie as tie

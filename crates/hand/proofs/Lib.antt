@@ -1,0 +1,4 @@
+pub mod Freeing
+pub mod Linking
+pub mod Pointing
+pub mod Taking

@@ -1,0 +1,4 @@
+pub mod Freeing
+pub mod Pointing
+pub mod Telling
+pub mod Testing

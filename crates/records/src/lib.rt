@@ -1,0 +1,132 @@
+// What a record of the list that the program `replay` reads holds, and the comparison of two headers.
+use header::Header;
+use header::Validation;
+use header::Version;
+ghost use mathlib.Core.Path.{_≡_};
+ghost use mathlib.Core.Bool.{true};
+ghost use Prim.Native.Nat.{_*_, _≤_};
+ghost use lib.ListN.{length};
+ghost use Rattle.lists.specs.Lists.{sameList};
+ghost use Rattle.records.specs.Records.{lengthIn, numberIn, modeIn, numbersIn, headerIn, SameFields};
+
+// The bytes of a record.
+pub const RECORD: usize = 1024;
+
+// The length of what a record lends: bytes 2 and 3.
+pub fn length_in(case: &[u8]) -> usize
+    requires { ⌜ length (now case) ≡ 1024 ⌝ }
+    ensures { λ r. ⌜ r ≡ lengthIn (now (case .entry)) ⌝ }
+{
+    words::read16(case, 2) as usize
+}
+
+// The answer's number: byte 4.
+pub fn number_in(case: &[u8]) -> u32
+    requires { ⌜ length (now case) ≡ 1024 ⌝ }
+    ensures { λ r. ⌜ r ≡ numberIn (now (case .entry)) ⌝ }
+{
+    case[4] as u32
+}
+
+// The mode: byte 1, where 0 is permissive.
+pub fn mode_in(case: &[u8]) -> Validation
+    requires { ⌜ length (now case) ≡ 1024 ⌝ }
+    ensures { λ r. ⌜ r ≡ modeIn (now (case .entry)) ⌝ }
+{
+    if case[1] == 0 {
+        return Validation::Permissive;
+    }
+    Validation::Strict
+}
+
+// Takes as many numbers of four bytes as `numbers` has places.
+pub fn take_numbers(held: &[u8], numbers: &mut [u32])
+    requires { ⌜ 4 * length (now numbers) ≤ length (now held) ⌝ }
+    ensures { λ _. ⌜ now (numbers .exit) ≡ numbersIn (now (held .entry)) (length (now (numbers .entry))) ⌝ }
+{
+    let mut i = 0;
+    while i < numbers.len() {
+        numbers[i] = words::read32(held, 4 * i);
+        i += 1;
+    }
+}
+
+// The header that 117 words hold beside a version.
+pub fn header_in(version: Version, held: &[u8]) -> Header
+    requires { ⌜ length (now held) ≡ 468 ⌝ }
+    ensures { λ r. ⌜ r ≡ headerIn version (now (held .entry)) ⌝ }
+{
+    let mut list = [0u32; 109];
+    take_numbers(&held[32..468], &mut list);
+    Header {
+        version,
+        dirs: words::read32(held, 4),
+        fats: words::read32(held, 8),
+        dir: words::read32(held, 12),
+        minifat: words::read32(held, 16),
+        minifats: words::read32(held, 20),
+        difat: words::read32(held, 24),
+        difats: words::read32(held, 28),
+        list,
+    }
+}
+
+// Whether two lists hold the same numbers.
+pub fn same_numbers(a: &[u32], b: &[u32]) -> bool
+    ensures { λ r. ⌜ r ≡ sameList (now (a .entry)) (now (b .entry)) ⌝ }
+{
+    if a.len() != b.len() {
+        return false;
+    }
+    let mut equal = true;
+    let mut i = 0;
+    while i < a.len() {
+        if a[i] != b[i] {
+            equal = false;
+        }
+        i += 1;
+    }
+    equal
+}
+
+// Whether two headers agree in their eight numbers.
+fn same_fields(a: Header, b: Header) -> bool
+    ensures { λ r. ⌜ (r ≡ true → SameFields a b) ⌝ }
+{
+    let v = a.version;
+    let w = b.version;
+    if v.number() != w.number() {
+        return false;
+    }
+    if a.dirs != b.dirs {
+        return false;
+    }
+    if a.fats != b.fats {
+        return false;
+    }
+    if a.dir != b.dir {
+        return false;
+    }
+    if a.minifat != b.minifat {
+        return false;
+    }
+    if a.minifats != b.minifats {
+        return false;
+    }
+    if a.difat != b.difat {
+        return false;
+    }
+    a.difats == b.difats
+}
+
+// Whether two headers are the same.
+pub fn same_header(a: Header, b: Header) -> bool
+    ensures { λ r. ⌜ (r ≡ true → a ≡ b) ⌝ }
+{
+    if !same_fields(a, b) {
+        return false;
+    }
+    let list = a.list;
+    let other = b.list;
+    same_numbers(&list, &other)
+}
