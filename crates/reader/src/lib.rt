@@ -6,12 +6,30 @@ use fields::RESERVED;
 use fields::number_at;
 ghost use mathlib.Core.Path.{_≡_};
 ghost use Rattle.fields.specs.Fields.{holdsNumber};
-ghost use Rattle.reader.specs.Serve.{servedAt, placeAfter, stepped};
+ghost use Rattle.reader.specs.Serve.{servedAt, placeAfter, stepped, numbersOf};
 
 // The bytes that are read, and the place in the table of the field that comes next.
 pub struct Reader<'a> {
     pub bytes: &'a [u8],
     pub at: usize,
+}
+
+// The numbers in a header's fields, from the minor version to the count of DIFAT sectors.
+pub struct Numbers {
+    pub minor: u32,
+    pub major: u32,
+    pub order: u32,
+    pub shift: u32,
+    pub mini: u32,
+    pub dirs: u32,
+    pub fats: u32,
+    pub dir: u32,
+    pub transaction: u32,
+    pub cutoff: u32,
+    pub minifat: u32,
+    pub minifats: u32,
+    pub difat: u32,
+    pub difats: u32,
 }
 
 // Whether the table has a number at a place.
@@ -92,4 +110,42 @@ pub fn number_of(b: &[u8], place: usize) -> u32
     ensures { λ r. ⌜ r ≡ servedAt (now (b .entry)) place ⌝ }
 {
     Reader::new(b, place).number()
+}
+
+// The numbers in the fields of lent bytes, read one after another by one reader; zeros where there is no header.
+pub fn read_fields(b: &[u8]) -> Numbers
+    ensures { λ r. ⌜ r ≡ numbersOf (now (b .entry)) ⌝ }
+{
+    let mut r = Reader::new(b, MINOR);
+    let minor = r.read_number();
+    let major = r.read_number();
+    let order = r.read_number();
+    let shift = r.read_number();
+    let mini = r.read_number();
+    r.read_number();
+    let dirs = r.read_number();
+    let fats = r.read_number();
+    let dir = r.read_number();
+    let transaction = r.read_number();
+    let cutoff = r.read_number();
+    let minifat = r.read_number();
+    let minifats = r.read_number();
+    let difat = r.read_number();
+    let difats = r.read_number();
+    Numbers {
+        minor,
+        major,
+        order,
+        shift,
+        mini,
+        dirs,
+        fats,
+        dir,
+        transaction,
+        cutoff,
+        minifat,
+        minifats,
+        difat,
+        difats,
+    }
 }
