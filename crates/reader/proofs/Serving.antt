@@ -8,9 +8,10 @@ use lib.Dec.{leb}
 use lib.ListN.{length}
 use Rattle.lists.specs.Lists.{choose, both}
 use Rattle.lists.proofs.Cases.{both-true, both-false-left, both-false-right}
-use Rattle.fields.specs.Fields.{holdsNumber, numberAt}
-use Rattle.reader.specs.Serve.{servedAt, placeAfter, stepped}
+use Rattle.fields.specs.Fields.{holdsNumber, numberAt, minorAt, majorAt, orderAt, shiftAt, miniAt, dirsAt, fatsAt, dirAt, transactionAt, cutoffAt, minifatAt, minifatsAt, difatAt, difatsAt}
+use Rattle.reader.specs.Serve.{servedAt, placeAfter, stepped, numbersOf}
 use Rattle.reader.specs.declared.Reader.{Reader}
+use Rattle.reader.specs.declared.Numbers.{Numbers}
 
 -- The number of the field, where b is as long as a header and the field holds one (MS-CFB 2.2).
 pub served-is : (b : List ℕ) (i : ℕ) → 512 ≤ length b → holdsNumber i ≡ true → servedAt b i ≡ numberAt b i
@@ -41,3 +42,40 @@ place-stays i h = rw (le-ltb i 18 h)
 pub steps : (r : Reader) (i : ℕ) → i ≡ placeAfter (r .at) → _≡_ {A = Reader} (record { bytes = r .bytes; at = i }) (stepped r)
 unfolding stepped
 steps r i e = ap (λ (n : ℕ). record { bytes = r .bytes; at = n }) e
+
+-- What one reader gives of a whole header is the number in each of its fields (MS-CFB 2.2).
+pub numbers-are : (b : List ℕ) → 512 ≤ length b → _≡_ {A = Numbers} (numbersOf b)
+    (record {
+      minor = numberAt b minorAt;
+      major = numberAt b majorAt;
+      order = numberAt b orderAt;
+      shift = numberAt b shiftAt;
+      mini = numberAt b miniAt;
+      dirs = numberAt b dirsAt;
+      fats = numberAt b fatsAt;
+      dir = numberAt b dirAt;
+      transaction = numberAt b transactionAt;
+      cutoff = numberAt b cutoffAt;
+      minifat = numberAt b minifatAt;
+      minifats = numberAt b minifatsAt;
+      difat = numberAt b difatAt;
+      difats = numberAt b difatsAt;
+    })
+unfolding numbersOf
+numbers-are b long = λ i.
+    record {
+      minor = served-is b minorAt long refl i;
+      major = served-is b majorAt long refl i;
+      order = served-is b orderAt long refl i;
+      shift = served-is b shiftAt long refl i;
+      mini = served-is b miniAt long refl i;
+      dirs = served-is b dirsAt long refl i;
+      fats = served-is b fatsAt long refl i;
+      dir = served-is b dirAt long refl i;
+      transaction = served-is b transactionAt long refl i;
+      cutoff = served-is b cutoffAt long refl i;
+      minifat = served-is b minifatAt long refl i;
+      minifats = served-is b minifatsAt long refl i;
+      difat = served-is b difatAt long refl i;
+      difats = served-is b difatsAt long refl i;
+    }

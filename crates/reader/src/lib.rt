@@ -76,24 +76,6 @@ impl<'a> Reader<'a> {
         Reader { bytes, at }
     }
 
-    // The number in the field at its place; 0 where there is none.
-    pub fn number(self) -> u32
-        ensures { λ n. ⌜ n ≡ servedAt (now (self .entry .bytes)) (self .entry .at) ⌝ }
-    {
-        served(self.bytes, self.at)
-    }
-
-    // The reader at the next place.
-    pub fn next(self) -> Reader<'a>
-        ensures { λ r. ⌜ r ≡ stepped (self .entry) ⌝ }
-    {
-        let at = place_after(self.at);
-        Reader {
-            bytes: self.bytes,
-            at,
-        }
-    }
-
     // The number in the field at its place; the reader then stands at the next place.
     pub fn read_number(&mut self) -> u32
         ensures { λ n. ⌜ (n ≡ servedAt (now (now (self .entry) .bytes)) (now (self .entry) .at)) × (now (self .exit) ≡ stepped (now (self .entry))) ⌝ }
@@ -103,13 +85,6 @@ impl<'a> Reader<'a> {
         self.at = place_after(at);
         number
     }
-}
-
-// The number in a field of lent bytes, by the field's place in the table; 0 where there is none.
-pub fn number_of(b: &[u8], place: usize) -> u32
-    ensures { λ r. ⌜ r ≡ servedAt (now (b .entry)) place ⌝ }
-{
-    Reader::new(b, place).number()
 }
 
 // The numbers in the fields of lent bytes, read one after another by one reader; zeros where there is no header.
