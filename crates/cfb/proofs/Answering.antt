@@ -68,7 +68,7 @@ walked-listed k count c e =
 left-read : (k : ℕ) (now buf : List ℕ) → k ≢ 0 → buf ≡ choose (eqb k 0) now buf
 left-read k now buf n = rw (ne-eqb k 0 n)
 
-left-zero : (k : ℕ) (ids xs : List ℕ) → k ≢ 0 → k ≢ 11 → replicate (length ids) 0 ≡ idsLeft k ids xs
+pub left-zero : (k : ℕ) (ids xs : List ℕ) → k ≢ 0 → k ≢ 11 → replicate (length ids) 0 ≡ idsLeft k ids xs
 unfolding idsLeft
 left-zero k ids xs n m = rw (ne-eqb k 0 n, ne-eqb k 11 m)
 

@@ -1,37 +1,34 @@
 -- The answers of write and resize, from the listing of their chain and from what the change leaves. Assumes nothing.
-use Prim.Native.Nat.{ℕ, _+_, _-_, _*_, _≤_, _<_}
-use mathlib.Core.Path.{_≡_, refl, sym, _∙_, ap}
-use mathlib.Core.Bool.{Bool, true, false}
-use mathlib.Core.List.{List, [], _∷_, _++_}
+use Prim.Native.Nat.{ℕ, _+_, _*_, _≤_}
+use mathlib.Core.Path.{_≡_, sym, _∙_, ap}
+use mathlib.Core.Bool.{Bool}
+use mathlib.Core.List.{List, [], _∷_}
 use mathlib.Core.Logic.{_≢_}
 use native.Mathlib.Omega.{arith}
 use native.Mathlib.Nat.{add-mul, one-mul, mul-le-mul-right}
-use borrow.Author.Tests.{eq-eqb, ne-eqb, lt-ltb, le-ltb, ltb-false}
-use lib.Dec.{eqb, ltb}
+use borrow.Author.Tests.{eq-eqb, ne-eqb, ltb-false}
+use lib.Dec.{eqb}
 use lib.ListN.{length, replicate}
 use Rattle.lists.specs.Lists.{choose}
-use Rattle.lists.specs.Rows.{Row, row, refusal, distinct, fresh}
-use Rattle.lists.proofs.Rows.{stop, pass, append-given, append-none}
 use Rattle.fat.specs.Lists.{roomOf}
 use Rattle.alloc.specs.Opening.{Tables}
 use Rattle.alloc.specs.Opened.{padded}
 use Rattle.chain.specs.declared.Walked.{Walked}
 use Rattle.chain.specs.declared.Walked.the-variants.{Listed, Refused}
-use Rattle.disk.specs.Needed.{resizeMore, writeMore}
 use Rattle.hand.specs.Hand.{Chain}
 use Rattle.hand.specs.Fits.{FitsChain}
 use Rattle.moves.proofs.Changing.{chain-room}
 use Rattle.moves.specs.Change.{resized, written, FitsResize, FitsWrite}
 use Rattle.moves.specs.declared.change.Changed.{Changed}
-use Rattle.cfb.specs.Calls.{stateLen, agreedRows, walkRows, chainIds, idsLeft, toldBy}
-use Rattle.cfb.specs.Changes.{changeRows, changeNo, noRoom, resizeRows, resizeNo, writeRows, writeNo, chainFrom, stateFrom, tablesIn, startIn, Changes, ChainResizes, ChainWrites, ChangeListed, doneWith}
+use Rattle.cfb.specs.Calls.{stateLen, chainIds, idsLeft, toldBy}
+use Rattle.cfb.specs.Changes.{noRoom, resizeRows, resizeNo, writeRows, writeNo, chainFrom, stateFrom, tablesIn, startIn, Changes, Judged, doneWith}
 use Rattle.cfb.specs.Listed.{answerFrom}
 use Rattle.cfb.specs.declared.State.{State}
 use Rattle.cfb.specs.declared.Called.{Called}
 use Rattle.cfb.specs.declared.Answer.{Answer}
-use Rattle.cfb.specs.declared.Answer.the-variants as answers
 use Rattle.cfb.proofs.Answering.{told-refused, told-done, told-apart, walked-refused, walked-listed}
 use Rattle.cfb.proofs.Fitted.{handIn}
+use Rattle.cfb.proofs.Judging.{row-passed, rows-passed}
 use Rattle.cfb.proofs.Ready.{ready-fits, ready-apart}
 
 -- what stands beside each end
@@ -40,20 +37,6 @@ left-as k a b n = ap (λ (t : Bool). choose t a b) (sym (ne-eqb k 0 n))
 
 made-as : {A : Type 0} (k : ℕ) (a b : A) → k ≡ 0 → a ≡ choose (eqb k 0) a b
 made-as k a b z = ap (λ (t : Bool). choose t a b) (sym (eq-eqb k 0 z))
-
--- a refusal by a number of the change's own
-pub changes-refused : (s : State) (img : List ℕ) (t : Tables) (ids : List ℕ) (k : ℕ) (after : Chain) (bytes number : ℕ) (r : Called) (ids' : List ℕ)
-    → k ≡ number → number ≢ 0 → number ≢ 11 → r ≡ record { answer = answers.Refused number; state = s } → ids' ≡ replicate (length ids) 0 → Changes s img t ids k after bytes r img t ids'
-changes-refused s img t ids k after bytes number r ids' e n m q z = record {
-  answer = ap (λ (x : Called). toldBy (x .answer)) q ∙ ap (λ (j : ℕ). j ∷ []) (sym e) ∙ told-refused k _ _ _ some;
-  state = ap (λ (x : Called). x .state) q ∙ left-as k _ s some;
-  image = left-as k _ img some;
-  tables = left-as k _ t some;
-  list = z ∙ ap (λ (b : Bool). choose b ids (replicate (length ids) 0)) (sym (ne-eqb k 11 (λ x. m (sym e ∙ x)))) ∙ left-as k _ _ some;
-}
-  where
-    some : k ≢ 0
-    some x = n (sym e ∙ x)
 
 -- a change that was made
 pub changes-made : (s : State) (img : List ℕ) (t : Tables) (ids : List ℕ) (k : ℕ) (after : Chain) (bytes : ℕ) (r : Called) (img' : List ℕ) (t' : Tables) (ids' : List ℕ) (c : Changed)
@@ -67,11 +50,6 @@ changes-made s img t ids k after bytes r img' t' ids' c z e q = record {
   list = ap (λ (x : Chain). x .ids) e ∙ made-as k _ _ z;
 }
 
--- the number of a change that its first rows refuse, and the id list beside it
-change-given : (s : State) (img : List ℕ) (t : Tables) (room start : ℕ) (rows : List Row) → changeNo s img t room start ≢ 0 → refusal (changeRows s img t room start ++ rows) ≡ changeNo s img t room start
-unfolding changeNo
-change-given s img t room start rows n = append-given (changeRows s img t room start) rows n
-
 left-refused : (k : ℕ) (ids xs : List ℕ) → k ≢ 0 → idsLeft k ids xs ≡ choose (eqb k 11) ids (replicate (length ids) 0)
 unfolding idsLeft
 left-refused k ids xs n = sym (left-as k (padded xs (length ids)) _ n)
@@ -80,120 +58,55 @@ left-made : (k : ℕ) (ids xs : List ℕ) → k ≡ 0 → idsLeft k ids xs ≡ p
 unfolding idsLeft
 left-made k ids xs z = sym (made-as k (padded xs (length ids)) _ z)
 
-module _ (s : State) (img : List ℕ) (t : Tables) (ids : List ℕ) (start : ℕ) (w : Walked) (ids' : List ℕ) (l : ChangeListed s img t ids start w ids') where
-  -- a change that is refused as its chain is listed
-  pub changes-early : (rows : List Row) (after : Chain) (bytes j : ℕ) (a : Answer) → w ≡ Refused j → a ≡ answerFrom w start 0
-      → Changes s img t ids (refusal (changeRows s img t (length ids) start ++ rows)) after bytes (record { answer = a; state = s }) img t ids'
+module _ (k : ℕ) (ids chain : List ℕ) (w : Walked) (ids' : List ℕ) (l : Judged k ids chain w ids') where
+  -- a change that is refused
+  pub changes-refused : (s : State) (img : List ℕ) (t : Tables) (start : ℕ) (after : Chain) (bytes j : ℕ) (a : Answer) → w ≡ Refused j → a ≡ answerFrom w start 0
+      → Changes s img t ids k after bytes (record { answer = a; state = s }) img t ids'
   unfolding answerFrom
-  changes-early rows after bytes j a e f =
+  changes-refused s img t start after bytes j a e f =
       let told-by = walked-refused _ _ j (sym e ∙ l .answer) in
-      let same : refusal (changeRows s img t (length ids) start ++ rows) ≡ changeNo s img t (length ids) start = given-early (told-by .0) in
-      let some : refusal (changeRows s img t (length ids) start ++ rows) ≢ 0 = λ z. told-by .0 (sym same ∙ z) in
       record {
-        answer = ap toldBy (f ∙ ap (λ (x : Walked). answerFrom x start 0) e) ∙ ap (λ (k : ℕ). k ∷ []) (told-by .1 ∙ sym same) ∙ told-refused _ _ _ _ some;
-        state = left-as _ _ s some;
-        image = left-as _ _ img some;
-        tables = left-as _ _ t some;
-        list = l .list ∙ left-early (told-by .0) ∙ ap (λ (k : ℕ). choose (eqb k 11) ids (replicate (length ids) 0)) (sym same) ∙ left-as _ _ _ some;
+        answer = ap toldBy (f ∙ ap (λ (x : Walked). answerFrom x start 0) e) ∙ ap (λ (n : ℕ). n ∷ []) (told-by .1) ∙ told-refused _ _ _ _ (told-by .0);
+        state = left-as _ _ s (told-by .0);
+        image = left-as _ _ img (told-by .0);
+        tables = left-as _ _ t (told-by .0);
+        list = l .list ∙ left-refused k ids chain (told-by .0) ∙ left-as _ _ _ (told-by .0);
       }
-    where
-      given-early : changeNo s img t (length ids) start ≢ 0 → refusal (changeRows s img t (length ids) start ++ rows) ≡ changeNo s img t (length ids) start
-      given-early n = change-given s img t (length ids) start rows n
 
-      left-early : changeNo s img t (length ids) start ≢ 0
-          → idsLeft (changeNo s img t (length ids) start) ids (chainIds s t start) ≡ choose (eqb (changeNo s img t (length ids) start) 11) ids (replicate (length ids) 0)
-      left-early n = left-refused (changeNo s img t (length ids) start) ids (chainIds s t start) n
+  -- one that is not
+  pub judged-zero : (c : ℕ) → w ≡ Listed c → k ≡ 0
+  judged-zero c e = walked-listed _ _ c (sym e ∙ l .answer) .0
 
-  pub resizes-early : (len j : ℕ) (a : Answer) → w ≡ Refused j → a ≡ answerFrom w start 0 → ChainResizes s img t ids start len (record { answer = a; state = s }) img t ids'
-  unfolding resizeNo resizeRows
-  resizes-early len j a e f = changes-early _ _ 0 j a e f
+-- the chain that was listed is the one in hand
+pub judged-chain : (s : State) (img : List ℕ) (t : Tables) (ids : List ℕ) (start k : ℕ) (w : Walked) (ids' : List ℕ) → Judged k ids (chainIds s t start) w ids' → (c : ℕ) → w ≡ Listed c
+    → record { hand = handIn img (s .sectors) (s .free) t; ids = ids'; count = c } ≡ chainFrom s img t (length ids) start
+unfolding chainFrom
+judged-chain s img t ids start k w ids' l c e =
+    let told-by = walked-listed _ _ c (sym e ∙ l .answer) in
+    let mine : ids' ≡ padded (chainIds s t start) (length ids) = l .list ∙ left-made k ids (chainIds s t start) (told-by .0) in
+    rw (mine, told-by .1)
 
-  pub writes-early : (offset : ℕ) (buf : List ℕ) (j : ℕ) (a : Answer) → w ≡ Refused j → a ≡ answerFrom w start 0 → ChainWrites s img t ids start offset buf (record { answer = a; state = s }) img t ids'
-  unfolding writeNo writeRows
-  writes-early offset buf j a e f = changes-early _ _ (length buf) j a e f
+-- a change that nothing stands against can be made
+module _ (s : State) (img : List ℕ) (t : Tables) (room start : ℕ) where
+  pub resize-ready : (len : ℕ) → resizeNo s img t room start len ≡ 0 → FitsResize (stateLen s) (roomOf (stateLen s) (length img)) len (chainFrom s img t room start)
+  unfolding chainFrom noRoom resizeNo resizeRows
+  resize-ready len z =
+      let passed = rows-passed s img t room start _ z in
+      record {
+        fits = record { fits = ready-fits s img t room start (passed .0); room = ltb-false _ _ (row-passed 24 _ _ (λ q. omega arith) (passed .1) .0) };
+        apart = ready-apart s img t room start (passed .0);
+      }
 
-  module _ (c : ℕ) (e : w ≡ Listed c) where
-    change-done : (changeNo s img t (length ids) start ≡ 0) × (c ≡ length (chainIds s t start))
-    change-done = walked-listed _ _ c (sym e ∙ l .answer)
-
-    -- the chain that was listed is the one in hand
-    pub listed-chain : record { hand = handIn img (s .sectors) (s .free) t; ids = ids'; count = c } ≡ chainFrom s img t (length ids) start
-    unfolding chainFrom
-    listed-chain =
-        let mine : ids' ≡ padded (chainIds s t start) (length ids) = l .list ∙ left-made _ ids (chainIds s t start) (change-done .0) in
-        rw (mine, change-done .1)
-
-    -- the rows behind it
-    pub last-rows : (rows : List Row) → refusal (changeRows s img t (length ids) start ++ rows) ≡ refusal rows
-    unfolding changeNo changeRows agreedRows walkRows distinct fresh
-    last-rows rows = append-none (changeRows s img t (length ids) start) rows refl (change-done .0)
-
-    -- a resize, of a chain with room for it and without
-    module _ (len : ℕ) where
-      resize-rows : resizeNo s img t (length ids) start len ≡ refusal (row 24 (noRoom s (length img) (resizeMore (stateLen s) (length (chainIds s t start)) len)) ∷ [])
-      unfolding resizeNo resizeRows
-      resize-rows = last-rows _
-
-      -- the sectors that it needs, by the count that was listed
-      more-is : resizeMore (stateLen s) c len ≡ resizeMore (stateLen s) (length (chainIds s t start)) len
-      more-is = ap (λ (n : ℕ). resizeMore (stateLen s) n len) (change-done .1)
-
-      pub resize-full : noRoom s (length img) (resizeMore (stateLen s) c len) ≡ true → resizeNo s img t (length ids) start len ≡ 24
-      resize-full h = resize-rows ∙ stop 24 _ [] (ap (noRoom s (length img)) (sym more-is) ∙ h)
-
-      module _ (room : noRoom s (length img) (resizeMore (stateLen s) c len) ≡ false) where
-        own-room : noRoom s (length img) (resizeMore (stateLen s) (length (chainIds s t start)) len) ≡ false
-        own-room = ap (noRoom s (length img)) (sym more-is) ∙ room
-
-        pub resize-zero : resizeNo s img t (length ids) start len ≡ 0
-        unfolding refusal
-        resize-zero = resize-rows ∙ pass 24 _ [] own-room
-
-        pub resize-ready : FitsResize (stateLen s) (roomOf (stateLen s) (length img)) len (chainFrom s img t (length ids) start)
-        unfolding chainFrom noRoom
-        resize-ready = record {
-          fits = record { fits = ready-fits s img t (length ids) start (change-done .0); room = ltb-false _ _ own-room };
-          apart = ready-apart s img t (length ids) start (change-done .0);
-        }
-
-    -- a write, likewise, and from past the chain's end
-    module _ (offset bytes : ℕ) where
-      write-rows : writeNo s img t (length ids) start offset bytes
-          ≡ refusal (row 23 (ltb (stateLen s * length (chainIds s t start)) offset) ∷ row 24 (noRoom s (length img) (writeMore (stateLen s) (length (chainIds s t start)) offset bytes)) ∷ [])
-      unfolding writeNo writeRows
-      write-rows = last-rows _
-
-      length-is : stateLen s * c ≡ stateLen s * length (chainIds s t start)
-      length-is = ap (λ (n : ℕ). stateLen s * n) (change-done .1)
-
-      over-is : writeMore (stateLen s) c offset bytes ≡ writeMore (stateLen s) (length (chainIds s t start)) offset bytes
-      over-is = ap (λ (n : ℕ). writeMore (stateLen s) n offset bytes) (change-done .1)
-
-      pub write-past : stateLen s * c < offset → writeNo s img t (length ids) start offset bytes ≡ 23
-      write-past h = write-rows ∙ stop 23 _ _ (lt-ltb _ offset (omega (arith, length-is)))
-
-      module _ (seeks : offset ≤ stateLen s * c) where
-        seeks-rows : writeNo s img t (length ids) start offset bytes ≡ refusal (row 24 (noRoom s (length img) (writeMore (stateLen s) (length (chainIds s t start)) offset bytes)) ∷ [])
-        seeks-rows = write-rows ∙ pass 23 _ _ (le-ltb _ offset (omega (arith, length-is)))
-
-        pub write-full : noRoom s (length img) (writeMore (stateLen s) c offset bytes) ≡ true → writeNo s img t (length ids) start offset bytes ≡ 24
-        write-full h = seeks-rows ∙ stop 24 _ [] (ap (noRoom s (length img)) (sym over-is) ∙ h)
-
-        module _ (room : noRoom s (length img) (writeMore (stateLen s) c offset bytes) ≡ false) where
-          over-room : noRoom s (length img) (writeMore (stateLen s) (length (chainIds s t start)) offset bytes) ≡ false
-          over-room = ap (noRoom s (length img)) (sym over-is) ∙ room
-
-          pub write-zero : writeNo s img t (length ids) start offset bytes ≡ 0
-          unfolding refusal
-          write-zero = seeks-rows ∙ pass 24 _ [] over-room
-
-          pub write-ready : FitsWrite (stateLen s) (roomOf (stateLen s) (length img)) offset bytes (chainFrom s img t (length ids) start)
-          unfolding chainFrom noRoom
-          write-ready = record {
-            fits = record { fits = ready-fits s img t (length ids) start (change-done .0); room = ltb-false _ _ over-room };
-            apart = ready-apart s img t (length ids) start (change-done .0);
-            seeks = omega (arith, seeks, length-is);
-          }
+  pub write-ready : (offset bytes : ℕ) → writeNo s img t room start offset bytes ≡ 0 → FitsWrite (stateLen s) (roomOf (stateLen s) (length img)) offset bytes (chainFrom s img t room start)
+  unfolding chainFrom noRoom writeNo writeRows
+  write-ready offset bytes z =
+      let passed = rows-passed s img t room start _ z in
+      let within = row-passed 23 _ _ (λ q. omega arith) (passed .1) in
+      record {
+        fits = record { fits = ready-fits s img t room start (passed .0); room = ltb-false _ _ (row-passed 24 _ _ (λ q. omega arith) (within .1) .0) };
+        apart = ready-apart s img t room start (passed .0);
+        seeks = ltb-false _ _ (within .0);
+      }
 
 -- what is said by the length of a state's sectors, and of the chain in hand, is said by an equal length and of an equal chain
 pub resize-own : (img : List ℕ) (len : ℕ) {S S' : ℕ} {c c' : Chain} → S ≡ S' → c ≡ c' → FitsResize S' (roomOf S' (length img)) len c' → FitsResize S (roomOf S (length img)) len c

@@ -8,6 +8,7 @@ pub mod Exactly
 pub mod Facing
 pub mod Fitted
 pub mod Given
+pub mod Judging
 pub mod Lying
 pub mod Ready
 pub mod Refusing

@@ -30,7 +30,7 @@ use Rattle.cfb.specs.Calls.{stateLen, agreedRows, walkRows, chainNo, cha
 use Rattle.cfb.specs.Causes.{Agreed}
 use Rattle.chain.specs.declared.Walked.{Walked}
 use Rattle.chain.specs.declared.Walked.the-variants.{Listed}
-use Rattle.cfb.specs.Changes.{changeRows, changeNo, chainFrom, ChangeListed}
+use Rattle.cfb.specs.Changes.{changeRows, changeNo, chainFrom, Listing}
 use Rattle.cfb.specs.declared.State.{State}
 use Rattle.cfb.proofs.Agreed.{Chained}
 use Rattle.cfb.proofs.Answering.{walked-listed}
@@ -190,15 +190,14 @@ module _ (s : State) (img : List ℕ) (t : Tables) (room start : ℕ) (z : chang
   }
 
 -- the sectors of a state whose chain is listed for a change are no more than there is room for
-pub listed-room : (s : State) (img : List ℕ) (t : Tables) (ids : List ℕ) (start : ℕ) (w : Walked) (ids' : List ℕ) → ChangeListed s img t ids start w ids' → (c : ℕ) → w ≡ Listed c
-    → s .sectors ≤ roomOf (stateLen s) (length img)
+pub listing-room : (s : State) (lent : ℕ) (w : Walked) (ids : List ℕ) → Listing s lent w ids → (c : ℕ) → w ≡ Listed c → s .sectors ≤ roomOf (stateLen s) lent
 unfolding chainFrom
-listed-room s img t ids start w ids' l c e = ready-fits s img t (length ids) start (walked-listed _ _ c (sym e ∙ l .answer) .0) .fits .disk .inside
+listing-room s lent w ids l c e =
+    rw (← l .long) (ready-fits s (l .image) (l .tables) (length (l .before)) (l .start) (walked-listed _ _ c (sym e ∙ l .listed .answer) .0) .fits .disk .inside)
 
 -- and the bytes of the chain are few
-pub listed-small : (s : State) (img : List ℕ) (t : Tables) (ids : List ℕ) (start : ℕ) (w : Walked) (ids' : List ℕ) → ChangeListed s img t ids start w ids' → (c : ℕ) → w ≡ Listed c
-    → {S : ℕ} → S ≡ stateLen s → S * c ≤ 1073741824
+pub listing-small : (s : State) (lent : ℕ) (w : Walked) (ids : List ℕ) → Listing s lent w ids → (c : ℕ) → w ≡ Listed c → {S : ℕ} → S ≡ stateLen s → S * c ≤ 1073741824
 unfolding chainFrom
-listed-small s img t ids start w ids' l c e q =
-    let told = walked-listed _ _ c (sym e ∙ l .answer) in
-    rw (q, told .1) (chain-bytes-small _ _ _ (ready-fits s img t (length ids) start (told .0)))
+listing-small s lent w ids l c e q =
+    let told = walked-listed _ _ c (sym e ∙ l .listed .answer) in
+    rw (q, told .1) (chain-bytes-small _ _ _ (ready-fits s (l .image) (l .tables) (length (l .before)) (l .start) (told .0)))

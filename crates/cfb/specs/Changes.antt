@@ -130,6 +130,21 @@ pub record ChangeListed (s : State) (img : List ℕ) (t : Tables) (ids : List �
   pub answer : r ≡ walkedAs (changeNo s img t (length ids) start) (length (chainIds s t start))
   pub list : ids' ≡ idsLeft (changeNo s img t (length ids) start) ids (chainIds s t start)
 
+-- a chain is listed for a change: of some lent image of so many bytes and its tables, an id list before and a start
+pub record Listing (s : State) (lent : ℕ) (w : Walked) (ids : List ℕ) : Type 0 where
+  pub image : List ℕ
+  pub tables : Tables
+  pub before : List ℕ
+  pub start : ℕ
+  pub long : length image ≡ lent
+  pub kept : length ids ≡ length before
+  pub listed : ChangeListed s image tables before start w ids
+
+-- a change of a chain of these ids is judged with number k: the answer, and the id list
+pub record Judged (k : ℕ) (ids chain : List ℕ) (r : Walked) (ids' : List ℕ) : Type 0 where
+  pub answer : r ≡ walkedAs k (length chain)
+  pub list : ids' ≡ idsLeft k ids chain
+
 -- the answer and the state after a change of which these numbers are told
 unfoldable pub doneWith : State → List ℕ → List ℕ → Changed → ℕ → Called
 unfolding startIn

@@ -9,7 +9,16 @@ use chain::Walked;
 use chain::walk;
 use moves::change::zero_from;
 ghost use mathlib.Core.Path.{_≡_};
+ghost use Rattle.cfb.specs.Calls.{stateLen};
 ghost use Rattle.cfb.specs.Listed.{cleared, answerFrom, ChainListed};
+
+// The length of the sectors of an open image.
+pub(crate) fn len_of(s: State) -> usize
+    ensures { λ r. ⌜ r ≡ stateLen s ⌝ }
+{
+    let version = s.version();
+    version.sector_len()
+}
 
 // Leaves zeros where a walk listed nothing: past its ids, or in the whole list after a refusal.
 fn clear_past(walked: Walked, ids: &mut [u32])

@@ -3,20 +3,22 @@ use crate::Answer;
 use crate::Called;
 use crate::State;
 use crate::calls::chain_of;
+use crate::calls::len_of;
 use alloc::early::room_of;
 use chain::Walked;
 use disk::room::has_room;
+use disk::room::sectors_over;
+use disk::room::sectors_past;
 use header::content::content;
 use moves::change::Changed;
 ghost use mathlib.Core.Path.{_≡_};
 ghost use Prim.Native.Nat.{_+_, _*_, _≤_, _<_};
 ghost use lib.Dec.{eqb};
-ghost use lib.ListN.{length, getD, replicate};
+ghost use lib.ListN.{length, getD};
 ghost use Rattle.fat.specs.Lists.{roomOf};
-ghost use Rattle.cfb.specs.Calls.{stateLen};
+ghost use Rattle.cfb.specs.Calls.{stateLen, chainIds};
 ghost use Rattle.cfb.specs.Listed.{walkedNo};
-ghost use Rattle.cfb.specs.declared.Answer.the-variants.{Refused};
-ghost use Rattle.cfb.specs.Changes.{ChangeListed, noRoom, startIn, doneWith};
+ghost use Rattle.cfb.specs.Changes.{ChangeListed, noRoom, writeNo, resizeNo, Listing, Judged, startIn, doneWith};
 
 // The number of a walk's answer: 0 where ids are listed.
 fn number_of(walked: Walked) -> u32
@@ -81,25 +83,61 @@ pub(crate) fn no_room(s: State, lent: usize, more: usize) -> bool
     requires { ⌜ s .sectors ≤ roomOf (stateLen s) lent ⌝ }
     ensures { λ r. ⌜ r ≡ noRoom s lent more ⌝ }
 {
-    let version = s.version();
-    let len = version.sector_len();
-    let room = room_of(version, lent);
     let free = s.free;
     if more <= free {
         return false;
     }
-    !has_room(len, s.sectors, more - free, room)
+    let room = room_of(s.version(), lent);
+    !has_room(len_of(s), s.sectors, more - free, room)
 }
 
-// A refusal behind the listing of the chain: the id list is zero.
-pub(crate) fn refuse(s: State, ids: &mut [u32], no: u32) -> Called
-    ensures { λ r. ⌜ (r ≡ record { answer = Refused no; state = s }) × (now (ids .exit) ≡ replicate (length (now (ids .entry))) 0) ⌝ }
+// Judges a write whose chain is listed, in a lent image of so many bytes: 23 and 24, in this order, leave the id list zero; a refusal before them is handed on.
+pub(crate) fn write_listed(
+    s: State,
+    walked: Walked,
+    lent: usize,
+    ids: &mut [u32],
+    offset: u64,
+    bytes: usize,
+) -> Walked
+    requires { ⌜ Listing s lent walked (now ids) ⌝ }
+    ensures { λ r. ⌜ ((l : Listing s lent walked (now (ids .entry))) → Judged (writeNo s (l .image) (l .tables) (length (l .before)) (l .start) offset bytes) (l .before) (chainIds s (l .tables) (l .start)) r (now (ids .exit))) ⌝ }
 {
-    words::fill32(ids, 0);
-    Called {
-        answer: Answer::Refused(no),
-        state: s,
+    let Walked::Listed(count) = walked else {
+        return walked;
+    };
+    let len = len_of(s);
+    if ((len * count) as u64) < offset {
+        words::fill32(ids, 0);
+        return Walked::Refused(23);
     }
+    if no_room(s, lent, sectors_past(len, count, offset as usize, bytes)) {
+        words::fill32(ids, 0);
+        return Walked::Refused(24);
+    }
+    walked
+}
+
+// Judges a resize whose chain is listed, likewise: 24 leaves the id list zero.
+pub(crate) fn resize_listed(
+    s: State,
+    walked: Walked,
+    lent: usize,
+    ids: &mut [u32],
+    bytes: u64,
+) -> Walked
+    requires { ⌜ Listing s lent walked (now ids) ⌝ }
+    ensures { λ r. ⌜ ((l : Listing s lent walked (now (ids .entry))) → Judged (resizeNo s (l .image) (l .tables) (length (l .before)) (l .start) bytes) (l .before) (chainIds s (l .tables) (l .start)) r (now (ids .exit))) ⌝ }
+{
+    let Walked::Listed(count) = walked else {
+        return walked;
+    };
+    let len = len_of(s);
+    if no_room(s, lent, sectors_over(len, count, bytes)) {
+        words::fill32(ids, 0);
+        return Walked::Refused(24);
+    }
+    walked
 }
 
 // Where a chain of count ids starts: END if it has none.
@@ -124,8 +162,7 @@ pub(crate) fn done_with(
     requires { ⌜ (512 ≤ length (now image)) × ((changed .sectors + 1) * stateLen s ≤ length (now image)) × (changed .ids ≤ length (now ids)) ⌝ }
     ensures { λ r. ⌜ r ≡ doneWith s (now (image .entry)) (now (ids .entry)) changed bytes ⌝ }
 {
-    let version = s.version();
-    let len = version.sector_len();
+    let len = len_of(s);
     let sectors = changed.sectors;
     let count = changed.ids;
     let start = first_of(ids, count);

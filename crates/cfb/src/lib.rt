@@ -5,13 +5,12 @@ mod changes;
 use alloc::open::open_tables;
 use calls::answer_of;
 use calls::chain_of;
+use calls::len_of;
 use chain::Walked;
 use changes::change_of;
 use changes::done_with;
-use changes::no_room;
-use changes::refuse;
-use disk::room::sectors_over;
-use disk::room::sectors_past;
+use changes::resize_listed;
+use changes::write_listed;
 use header::Header;
 use header::Validation;
 use header::Version;
@@ -182,8 +181,7 @@ impl State {
                 state: self,
             };
         };
-        let version = self.version();
-        let s = version.sector_len();
+        let s = len_of(self);
         if ((s * count) as u64) < offset {
             words::fill32(ids, 0);
             return Called {
@@ -218,7 +216,8 @@ impl State {
     ) -> Called
         ensures { λ r. ⌜ ChainWrites self (now (image .entry)) (record { fat = now (fat .entry); fats = now (fats .entry); difats = now (difats .entry); frees = now (frees .entry); marks = now (marks .entry) }) (now (ids .entry)) start offset (now (buf .entry)) r (now (image .exit)) (record { fat = now (fat .exit); fats = now (fats .exit); difats = now (difats .exit); frees = now (frees .exit); marks = now (marks .exit) }) (now (ids .exit)) ⌝ }
     {
-        let walked = change_of(self, image, fat, fats, difats, frees, marks, ids, start);
+        let listed = change_of(self, image, fat, fats, difats, frees, marks, ids, start);
+        let walked = write_listed(self, listed, image.len(), ids, offset, buf.len());
         let Walked::Listed(count) = walked else {
             let answer = answer_of(walked, start);
             return Called {
@@ -226,17 +225,10 @@ impl State {
                 state: self,
             };
         };
-        let version = self.version();
-        let s = version.sector_len();
-        if ((s * count) as u64) < offset {
-            return refuse(self, ids, 23);
-        }
-        let at = offset as usize;
-        if no_room(self, image.len(), sectors_past(s, count, at, buf.len())) {
-            return refuse(self, ids, 24);
-        }
+        let s = len_of(self);
         let n = self.sectors;
         let free = self.free;
+        let at = offset as usize;
         let changed = write_chain(
             image,
             s,
@@ -270,7 +262,8 @@ impl State {
     ) -> Called
         ensures { λ r. ⌜ ChainResizes self (now (image .entry)) (record { fat = now (fat .entry); fats = now (fats .entry); difats = now (difats .entry); frees = now (frees .entry); marks = now (marks .entry) }) (now (ids .entry)) start len r (now (image .exit)) (record { fat = now (fat .exit); fats = now (fats .exit); difats = now (difats .exit); frees = now (frees .exit); marks = now (marks .exit) }) (now (ids .exit)) ⌝ }
     {
-        let walked = change_of(self, image, fat, fats, difats, frees, marks, ids, start);
+        let listed = change_of(self, image, fat, fats, difats, frees, marks, ids, start);
+        let walked = resize_listed(self, listed, image.len(), ids, len);
         let Walked::Listed(count) = walked else {
             let answer = answer_of(walked, start);
             return Called {
@@ -278,11 +271,7 @@ impl State {
                 state: self,
             };
         };
-        let version = self.version();
-        let s = version.sector_len();
-        if no_room(self, image.len(), sectors_over(s, count, len)) {
-            return refuse(self, ids, 24);
-        }
+        let s = len_of(self);
         let n = self.sectors;
         let free = self.free;
         let changed = set_len(

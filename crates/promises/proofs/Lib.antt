@@ -5,6 +5,7 @@ pub mod Cases
 pub mod Coding
 pub mod Demand
 pub mod Encoding
+pub mod Ending
 pub mod Entries
 pub mod Examples
 pub mod Following
@@ -12,6 +13,7 @@ pub mod Forming
 pub mod Graph
 pub mod Growing
 pub mod Kept
+pub mod Naming
 pub mod Others
 pub mod Parts
 pub mod Placing

@@ -3,10 +3,8 @@ use Prim.Native.Nat.{ℕ}
 use mathlib.Core.Path.{_≡_, sym, _∙_, ap}
 use native.Mathlib.Omega.{arith}
 use lib.ListN.{length, replicate}
-use Rattle.header.specs.Versions.{lengthOf}
 use Rattle.alloc.specs.Opening.{Tables}
 use Rattle.chain.specs.declared.Walked.the-variants.{Listed}
-use Rattle.cfb.specs.Calls.{stateLen}
 use Rattle.cfb.specs.declared.State.{State}
 use Rattle.cfb.proofs.Answering.{reads-refused, reads-past, reads-done}
 use Rattle.cfb.proofs.Lying.{read-own, past-own, within-own, listed-count, listed-within, listed-bytes, listed-readable}
@@ -18,8 +16,8 @@ use Rattle.cfb.proofs.State.read.Tie as tie
 abbrev begun : tie.After-chain-of → tie.Start
 begun c = c .before .before .before .before .before .before .before .before .before .before
 
-abbrev listed : tie.After-sector-len → tie.After-chain-of
-listed c = c .before .before .before .before .before .before .before
+abbrev listed : tie.After-len-of → tie.After-chain-of
+listed c = c .before .before .before .before .before .before
 
 abbrev state : tie.After-chain-of → State
 state c = begun c .args .self
@@ -27,17 +25,13 @@ state c = begun c .args .self
 abbrev tables : tie.After-chain-of → Tables
 tables c = record { fat = begun c .args .fat .now; fats = begun c .args .fats .now; difats = begun c .args .difats .now; frees = begun c .args .frees .now; marks = begun c .args .marks .now }
 
--- the sectors' length is the state's
-length-is : (c : tie.After-sector-len) → c .sector-len .result ≡ stateLen (state (listed c))
-length-is c = c .sector-len .ensures ∙ ap lengthOf (c .before .version .ensures)
-
 -- the test of the offset, behind the read
 abbrev within : tie.After-slice-known5 → tie.Else1
 within c = c .before .before .before .before .before
 
 -- the count is that of the walk
-walked-is : (c : tie.After-sector-len) → listed c .chain-of .result ≡ Listed (c .before .before .before .walked .given .0 .0)
-walked-is c = c .before .before .before .walked .given .1
+walked-is : (c : tie.After-len-of) → listed c .chain-of .result ≡ Listed (c .before .before .walked .given .0 .0)
+walked-is c = c .before .before .walked .given .1
 
 chain-of-requires : tie.Need-chain-of-requires
 chain-of-requires c κs = search needs
@@ -57,14 +51,11 @@ same-length c = search needs
 returns : tie.Need-returns
 returns c = reads-refused _ _ (tables (c .before .before .before .before .before)) _ _ _ _ (c .before .before .before .before .before .chain-of .ensures) _ _ _ _ (c .before .enum-told .given .1) (c .answer-of .ensures)
 
-version-requires : tie.Need-version-requires
-version-requires c κs = search needs
-
-sector-len-requires : tie.Need-sector-len-requires
-sector-len-requires c κs = search needs
+len-of-requires : tie.Need-len-of-requires
+len-of-requires c κs = search needs
 
 mul-if1 : tie.Need-mul-if1
-mul-if1 c = omega (arith, listed-bytes _ _ (tables (listed c)) _ _ _ _ (listed c .chain-of .ensures) _ (walked-is c) (length-is c))
+mul-if1 c = omega (arith, listed-bytes _ _ (tables (listed c)) _ _ _ _ (listed c .chain-of .ensures) _ (walked-is c) (c .len-of .ensures))
 
 fill32-requires : tie.Need-fill32-requires
 fill32-requires c κs = search needs
@@ -75,7 +66,7 @@ same-length-2 c = search needs
 returns-2 : tie.Need-returns-2
 returns-2 c =
     let k = c .before .before .before .before .before in
-    reads-past _ _ (tables (listed k)) _ _ _ _ (listed k .chain-of .ensures) _ _ _ (walked-is k) _ (past-own _ (length-is k) (c .before .before .before .before .if1 .taken)) (c .before .before .fill32 .ensures ∙ ap (λ (n : ℕ). replicate n 0) (listed k .chain-of .kept .1 .1 .1 .1 .1 .1 .1 .0))
+    reads-past _ _ (tables (listed k)) _ _ _ _ (listed k .chain-of .ensures) _ _ _ (walked-is k) _ (past-own _ (k .len-of .ensures) (c .before .before .before .before .if1 .taken)) (c .before .before .fill32 .ensures ∙ ap (λ (n : ℕ). replicate n 0) (listed k .chain-of .kept .1 .1 .1 .1 .1 .1 .1 .0))
 
 slice-reshare-prefix-read : tie.Need-slice-reshare-prefix-read
 slice-reshare-prefix-read c = let k = c .before in listed-within _ _ (tables (listed k)) _ _ _ _ (listed k .chain-of .ensures) _ (walked-is k)
@@ -84,7 +75,7 @@ slice-aggregate-read : tie.Need-slice-aggregate-read
 slice-aggregate-read c = let k = c .before .before in sym (listed-count _ _ (tables (listed k)) _ _ _ _ (listed k .chain-of .ensures) _ (walked-is k))
 
 read-requires : tie.Need-read-requires
-read-requires c κs = let k = c .before .before .before in listed-readable _ _ (tables (listed k)) _ _ _ _ (listed k .chain-of .ensures) _ (walked-is k) (length-is k) (c .before .before .if1 .left)
+read-requires c κs = let k = c .before .before .before in listed-readable _ _ (tables (listed k)) _ _ _ _ (listed k .chain-of .ensures) _ (walked-is k) (k .len-of .ensures) (c .before .before .if1 .left)
 
 same-length-3 : tie.Need-same-length-3
 same-length-3 c = search needs
@@ -95,7 +86,7 @@ same-length-4 c = search needs
 returns-3 : tie.Need-returns-3
 returns-3 c =
     let k = within c .before in
-    reads-done _ _ (tables (listed k)) _ _ _ _ (listed k .chain-of .ensures) _ _ _ (walked-is k) _ _ (within-own _ (length-is k) (within c .if1 .left)) (read-own (length-is k) (c .before .before .read .ensures))
+    reads-done _ _ (tables (listed k)) _ _ _ _ (listed k .chain-of .ensures) _ _ _ (walked-is k) _ _ (within-own _ (k .len-of .ensures) (within c .if1 .left)) (read-own (k .len-of .ensures) (c .before .before .read .ensures))
 
 pub read-spec : {M : Type 1} → statement M
 read-spec =
@@ -107,8 +98,7 @@ read-spec =
     answer-of-requires
     same-length
     returns
-    version-requires
-    sector-len-requires
+    len-of-requires
     mul-if1
     fill32-requires
     same-length-2

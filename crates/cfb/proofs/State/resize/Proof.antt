@@ -1,35 +1,28 @@
--- The chain is listed and judged; without room nothing is stored; else what the change leaves is the chain in hand after it.
-use Prim.Native.Nat.{ℕ}
-use mathlib.Core.Path.{_≡_, sym, _∙_, ap}
-use mathlib.Core.Bool.{false}
-use native.Mathlib.Omega.{arith}
-use lib.ListN.{length, replicate}
-use Rattle.header.specs.Versions.{lengthOf}
-use Rattle.fat.specs.Lists.{roomOf}
+-- The chain is listed and judged before anything is stored; then what the change leaves is the chain in hand after it.
+use mathlib.Core.Path.{_≡_, refl, _∙_}
+use lib.ListN.{length}
 use Rattle.alloc.specs.Opening.{Tables}
 use Rattle.chain.specs.declared.Walked.the-variants.{Listed}
-use Rattle.disk.specs.Needed.{resizeMore}
+use Rattle.fat.specs.Lists.{roomOf}
 use Rattle.moves.specs.Change.{FitsResize}
 use Rattle.moves.proofs.Changing.{resized-fits}
-use Rattle.cfb.specs.Calls.{stateLen}
-use Rattle.cfb.specs.Changes.{noRoom, chainFrom}
+use Rattle.cfb.specs.Calls.{stateLen, chainIds}
+use Rattle.cfb.specs.Changes.{resizeNo, chainFrom, Listing, Judged}
 use Rattle.cfb.specs.declared.State.{State}
-use Rattle.cfb.proofs.Changing.{resizes-early, changes-refused, changes-made, listed-chain, resize-full, resize-zero, resize-ready, resize-own, resized-own, made-lies}
-use Rattle.cfb.proofs.Fitted.{length-least, length-most}
-use Rattle.cfb.proofs.Ready.{listed-room}
+use Rattle.cfb.proofs.Changing.{changes-refused, changes-made, judged-zero, judged-chain, resize-ready, resize-own, resized-own, made-lies}
 use borrow.Author.Needs.{needs}
 use Rattle.cfb.proofs.State.resize.Statement.{statement}
 use Rattle.cfb.proofs.State.resize.Tie as tie
 
--- where the chain is listed, what was lent, where the sectors' length is known, and where the room is
+-- what was lent, where the chain is listed and where it is judged
 abbrev begun : tie.After-change-of → tie.Start
 begun c = c .before .before .before .before .before .before .before .before .before .before .before .before .before .before .before
 
-abbrev listed : tie.After-sector-len → tie.After-change-of
-listed c = c .before .before .before .before .before .before .before
+abbrev listed : tie.After-resize-listed → tie.After-change-of
+listed c = c .before .before .before .before
 
-abbrev asked : tie.After-no-room → tie.After-sector-len
-asked c = c .before .before
+abbrev judging : tie.After-len-of → tie.After-resize-listed
+judging c = c .before .before .before .before .before .before
 
 abbrev state : tie.After-change-of → State
 state c = begun c .args .self
@@ -37,29 +30,34 @@ state c = begun c .args .self
 abbrev tables : tie.After-change-of → Tables
 tables c = record { fat = begun c .args .fat .now; fats = begun c .args .fats .now; difats = begun c .args .difats .now; frees = begun c .args .frees .now; marks = begun c .args .marks .now }
 
--- the sectors' length is the state's, and the count is that of the walk
-length-is : (c : tie.After-sector-len) → c .sector-len .result ≡ stateLen (state (listed c))
-length-is c = c .sector-len .ensures ∙ ap lengthOf (c .before .version .ensures)
+abbrev listing : (c : tie.After-change-of) → Listing (state c) (length (begun c .args .image .now)) (c .change-of .result) (c .change-of .last .1 .1 .1 .1 .1 .1 .1 .0)
+listing c = record {
+  image = begun c .args .image .now;
+  tables = tables c;
+  before = begun c .args .ids .now;
+  start = begun c .args .start;
+  long = refl;
+  kept = c .change-of .kept .1 .1 .1 .1 .1 .1 .1 .0;
+  listed = c .change-of .ensures;
+}
 
-walked-is : (c : tie.After-sector-len) → listed c .change-of .result ≡ Listed (c .before .before .before .walked .given .0 .0)
-walked-is c = c .before .before .before .walked .given .1
+judged : (c : tie.After-resize-listed) → Judged (resizeNo (state (listed c)) (begun (listed c) .args .image .now) (tables (listed c)) (length (begun (listed c) .args .ids .now)) (begun (listed c) .args .start) (begun (listed c) .args .len)) (begun (listed c) .args .ids .now)
+    (chainIds (state (listed c)) (tables (listed c)) (begun (listed c) .args .start)) (c .resize-listed .result) (c .resize-listed .last .1 .1 .1 .0)
+judged c = c .resize-listed .ensures (listing (listed c))
 
-list-kept : (c : tie.After-change-of) → length (c .change-of .last .1 .1 .1 .1 .1 .1 .1 .0) ≡ length (begun c .args .ids .now)
-list-kept c = c .change-of .kept .1 .1 .1 .1 .1 .1 .1 .0
+-- the count is that of the listing, and the change can be made
+walked-is : (c : tie.After-len-of) → judging c .resize-listed .result ≡ Listed (c .before .before .walked .given .0 .0)
+walked-is c = c .before .before .walked .given .1
 
--- whether there is room is that of the row
-room-is : (c : tie.After-no-room) → c .no-room .result ≡ noRoom (state (listed (asked c))) (length (begun (listed (asked c)) .args .image .now)) (resizeMore (stateLen (state (listed (asked c)))) (asked c .before .before .before .walked .given .0 .0) (begun (listed (asked c)) .args .len))
-room-is c =
-    let k = asked c in
-    c .no-room .ensures ∙ ap (noRoom (state (listed k)) _) (c .before .sectors-over .ensures ∙ ap (λ (S : ℕ). resizeMore S (k .before .before .before .walked .given .0 .0) (begun (listed k) .args .len)) (length-is k))
-
--- a change that can be made, where there is room
-ready : (c : tie.After-no-room) → c .no-room .result ≡ false → FitsResize (stateLen (state (listed (asked c)))) (roomOf (stateLen (state (listed (asked c)))) (length (begun (listed (asked c)) .args .image .now))) (begun (listed (asked c)) .args .len)
-    (chainFrom (state (listed (asked c))) (begun (listed (asked c)) .args .image .now) (tables (listed (asked c))) (length (begun (listed (asked c)) .args .ids .now)) (begun (listed (asked c)) .args .start))
-ready c f = let k = asked c in resize-ready _ _ (tables (listed k)) _ _ _ _ (listed k .change-of .ensures) _ (walked-is k) _ (sym (room-is c) ∙ f)
+ready : (c : tie.After-len-of) → FitsResize (stateLen (state (listed (judging c)))) (roomOf (stateLen (state (listed (judging c)))) (length (begun (listed (judging c)) .args .image .now))) (begun (listed (judging c)) .args .len)
+    (chainFrom (state (listed (judging c))) (begun (listed (judging c)) .args .image .now) (tables (listed (judging c))) (length (begun (listed (judging c)) .args .ids .now)) (begun (listed (judging c)) .args .start))
+ready c = let a = listed (judging c) in resize-ready (state a) _ (tables a) _ _ _ (judged-zero _ _ _ _ _ (judged (judging c)) _ (walked-is c))
 
 change-of-requires : tie.Need-change-of-requires
 change-of-requires c κs = search needs
+
+resize-listed-requires : tie.Need-resize-listed-requires
+resize-listed-requires c κs = listing (c .before .before .before)
 
 enum-known-walked : tie.Need-enum-known-walked
 enum-known-walked c = search needs
@@ -92,23 +90,21 @@ same-length-7 : tie.Need-same-length-7
 same-length-7 c = search needs
 
 returns : tie.Need-returns
-returns c = let a = c .before .before .before .before .before in resizes-early _ _ (tables a) _ _ _ _ (a .change-of .ensures) _ _ _ (c .before .enum-told .given .1) (c .answer-of .ensures)
+returns c = let w = c .before .before .before .before .before in changes-refused _ _ _ _ _ (judged w) _ _ (tables (listed w)) _ _ _ _ _ (c .before .enum-told .given .1) (c .answer-of .ensures)
 
-version-requires : tie.Need-version-requires
-version-requires c κs = search needs
+len-of-requires : tie.Need-len-of-requires
+len-of-requires c κs = search needs
 
-sector-len-requires : tie.Need-sector-len-requires
-sector-len-requires c κs = search needs
+set-len-requires : tie.Need-set-len-requires
+set-len-requires c κs =
+    let k = c .before .before .before .before .before .before .before in
+    resize-own (begun (listed (judging k)) .args .image .now) _ (k .len-of .ensures) (judged-chain (state (listed (judging k))) _ (tables (listed (judging k))) _ (begun (listed (judging k)) .args .start) _ _ _ (judged (judging k)) _ (walked-is k)) (ready k)
 
-sectors-over-requires : tie.Need-sectors-over-requires
-sectors-over-requires c κs =
-    let v = state (listed c) .header .version in (omega (arith, length-is c, length-least v), omega (arith, length-is c, length-most v))
-
-no-room-requires : tie.Need-no-room-requires
-no-room-requires c κs = let k = c .before in listed-room _ _ (tables (listed k)) _ _ _ _ (listed k .change-of .ensures) _ (walked-is k)
-
-refuse-requires : tie.Need-refuse-requires
-refuse-requires c κs = search needs
+done-with-requires : tie.Need-done-with-requires
+done-with-requires c κs =
+    let m = c .before .before .before .before .before .before .before .before .before .before .before .before .before .before .before .before in
+    let k = m .before .before .before .before .before .before .before .before in
+    made-lies _ _ _ _ (m .set-len .ensures ∙ resized-own _ (k .len-of .ensures) (judged-chain (state (listed (judging k))) _ (tables (listed (judging k))) _ (begun (listed (judging k)) .args .start) _ _ _ (judged (judging k)) _ (walked-is k))) (resized-fits _ _ _ _ (ready k))
 
 same-length-8 : tie.Need-same-length-8
 same-length-8 c = search needs
@@ -129,65 +125,23 @@ same-length-13 : tie.Need-same-length-13
 same-length-13 c = search needs
 
 same-length-14 : tie.Need-same-length-14
-same-length-14 c = search needs
+same-length-14 c =
+    let m = c .before .before .before .before .before .before .before .before .before .before .before .before .before .before .before .before .before in
+    let w = judging (m .before .before .before .before .before .before .before .before) in
+    m .set-len .kept .1 .1 .1 .1 .1 .1 .1 .1 .1 .0 ∙ w .resize-listed .kept .1 .1 .1 .0 ∙ listing (listed w) .kept
 
 returns-2 : tie.Need-returns-2
 returns-2 c =
-    let n = c .before .before .before .before .before in
-    let k = asked n in
-    changes-refused _ _ (tables (listed k)) _ _ _ 0 24 _ _ (resize-full _ _ (tables (listed k)) _ _ _ _ (listed k .change-of .ensures) _ (walked-is k) _ (sym (room-is n) ∙ c .before .before .before .before .if1 .taken)) (λ z. omega arith) (λ z. omega arith)
-    (c .before .before .refuse .ensures .0) (c .before .before .refuse .ensures .1 ∙ ap (λ (m : ℕ). replicate m 0) (list-kept (listed k)))
-
-set-len-requires : tie.Need-set-len-requires
-set-len-requires c κs =
-    let n = c .before .before .before .before .before .before .before .before in
-    let k = asked n in
-    resize-own (begun (listed k) .args .image .now) _ (length-is k) (listed-chain _ _ (tables (listed k)) _ _ _ _ (listed k .change-of .ensures) _ (walked-is k))
-    (ready n (c .before .before .before .before .before .before .before .if1 .left))
-
-done-with-requires : tie.Need-done-with-requires
-done-with-requires c κs =
-    let m = c .before .before .before .before .before .before .before .before .before .before .before .before .before .before .before .before in
-    let n = m .before .before .before .before .before .before .before .before .before in
-    let k = asked n in
-    made-lies _ _ _ _ (m .set-len .ensures ∙ resized-own _ (length-is k) (listed-chain _ _ (tables (listed k)) _ _ _ _ (listed k .change-of .ensures) _ (walked-is k))) (resized-fits _ _ _ _ (ready n (m .before .before .before .before .before .before .before .before .if1 .left)))
-
-same-length-15 : tie.Need-same-length-15
-same-length-15 c = search needs
-
-same-length-16 : tie.Need-same-length-16
-same-length-16 c = search needs
-
-same-length-17 : tie.Need-same-length-17
-same-length-17 c = search needs
-
-same-length-18 : tie.Need-same-length-18
-same-length-18 c = search needs
-
-same-length-19 : tie.Need-same-length-19
-same-length-19 c = search needs
-
-same-length-20 : tie.Need-same-length-20
-same-length-20 c = search needs
-
-same-length-21 : tie.Need-same-length-21
-same-length-21 c =
     let m = c .before .before .before .before .before .before .before .before .before .before .before .before .before .before .before .before .before in
-    m .set-len .kept .1 .1 .1 .1 .1 .1 .1 .1 .1 .0 ∙ list-kept (listed (asked (m .before .before .before .before .before .before .before .before .before)))
-
-returns-3 : tie.Need-returns-3
-returns-3 c =
-    let m = c .before .before .before .before .before .before .before .before .before .before .before .before .before .before .before .before .before in
-    let n = m .before .before .before .before .before .before .before .before .before in
-    let k = asked n in
-    changes-made _ _ (tables (listed k)) _ _ _ 0 _ _ _ _ (m .set-len .result) (resize-zero _ _ (tables (listed k)) _ _ _ _ (listed k .change-of .ensures) _ (walked-is k) _ (sym (room-is n) ∙ m .before .before .before .before .before .before .before .before .if1 .left))
-    (m .set-len .ensures ∙ resized-own _ (length-is k) (listed-chain _ _ (tables (listed k)) _ _ _ _ (listed k .change-of .ensures) _ (walked-is k))) (c .done-with .ensures)
+    let k = m .before .before .before .before .before .before .before .before in
+    changes-made _ _ (tables (listed (judging k))) _ _ _ 0 _ _ _ _ (m .set-len .result) (judged-zero _ _ _ _ _ (judged (judging k)) _ (walked-is k)) (m .set-len .ensures ∙ resized-own _ (k .len-of .ensures) (judged-chain (state (listed (judging k))) _ (tables (listed (judging k))) _ (begun (listed (judging k)) .args .start) _ _ _ (judged (judging k)) _ (walked-is k))) (c .done-with .ensures)
 
 pub resize-spec : {M : Type 1} → statement M
 resize-spec =
     tie.close
     (tie.spec
     change-of-requires
+    resize-listed-requires
     enum-known-walked
     enum-told
     answer-of-requires
@@ -199,11 +153,9 @@ resize-spec =
     same-length-6
     same-length-7
     returns
-    version-requires
-    sector-len-requires
-    sectors-over-requires
-    no-room-requires
-    refuse-requires
+    len-of-requires
+    set-len-requires
+    done-with-requires
     same-length-8
     same-length-9
     same-length-10
@@ -211,14 +163,4 @@ resize-spec =
     same-length-12
     same-length-13
     same-length-14
-    returns-2
-    set-len-requires
-    done-with-requires
-    same-length-15
-    same-length-16
-    same-length-17
-    same-length-18
-    same-length-19
-    same-length-20
-    same-length-21
-    returns-3)
+    returns-2)

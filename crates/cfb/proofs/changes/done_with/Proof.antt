@@ -1,8 +1,6 @@
 -- The numbers are those that the change tells, and the header is read anew.
 use Prim.Native.Nat.{_+_}
-use mathlib.Core.Path.{_≡_, _∙_, ap}
 use native.Mathlib.Omega.{arith}
-use Rattle.header.specs.Versions.{lengthOf}
 use Rattle.sectors.proofs.Laws.{scaled}
 use Rattle.cfb.specs.Calls.{stateLen}
 use Rattle.cfb.proofs.Ending.{used-own, done-as}
@@ -11,15 +9,8 @@ use borrow.Author.Needs.{needs}
 use Rattle.cfb.proofs.changes.done_with.Statement.{statement}
 use Rattle.cfb.proofs.changes.done_with.Tie as tie
 
--- the sectors' length is the state's
-length-is : (c : tie.After-sector-len) → c .sector-len .result ≡ stateLen (c .before .before .before .before .args .s)
-length-is c = c .sector-len .ensures ∙ ap lengthOf (c .before .version .ensures)
-
-version-requires : tie.Need-version-requires
-version-requires c κs = search needs
-
-sector-len-requires : tie.Need-sector-len-requires
-sector-len-requires c κs = search needs
+len-of-requires : tie.Need-len-of-requires
+len-of-requires c κs = search needs
 
 first-of-requires : tie.Need-first-of-requires
 first-of-requires c κs = search needs
@@ -29,23 +20,15 @@ content-requires c κs = search needs
 
 add-s : tie.Need-add-s
 add-s c =
-    let g = c .before .before .before .before .before .before in
+    let g = c .before .before .before .before .before in
     omega (arith, g .pre .1, scaled (g .args .changed .sectors + 1) (stateLen (g .args .s)) (omega (arith, length-least (g .args .s .header .version))))
 
 mul-s : tie.Need-mul-s
-mul-s c = let g = c .before .before .before .before .before .before in omega (arith, used-own (g .args .changed .sectors) _ (length-is (c .before .before)) (g .pre .1))
+mul-s c = let g = c .before .before .before .before .before in omega (arith, used-own (g .args .changed .sectors) _ (c .before .before .len-of .ensures) (g .pre .1))
 
 returns : tie.Need-returns
-returns c = let g = c .before .before .before .before .before .before in done-as (g .args .s) _ _ (g .args .changed) _ _ _ _ (c .before .first-of .ensures) (length-is (c .before .before)) (c .content .ensures)
+returns c = let g = c .before .before .before .before .before in done-as (g .args .s) _ _ (g .args .changed) _ _ _ _ (c .before .first-of .ensures) (c .before .before .len-of .ensures) (c .content .ensures)
 
 pub done-with-spec : {M : Type 1} → statement M
 done-with-spec =
-    tie.close
-    (tie.spec
-    version-requires
-    sector-len-requires
-    first-of-requires
-    content-requires
-    add-s
-    mul-s
-    returns)
+    tie.close (tie.spec len-of-requires first-of-requires content-requires add-s mul-s returns)
