@@ -6,6 +6,7 @@ use crate::Version;
 use crate::judge::version_of;
 use fields::entries::read_list;
 use fields::*;
+use reader::read_fields;
 ghost use mathlib.Core.Path.{_≡_};
 ghost use Prim.Native.Nat.{_≤_};
 ghost use lib.ListN.{length};
@@ -37,17 +38,17 @@ pub fn content(b: &[u8]) -> Header
     requires { ⌜ 512 ≤ length (now b) ⌝ }
     ensures { λ r. ⌜ r ≡ headerOf (now (b .entry)) ⌝ }
 {
-    let major = number_at(b, MAJOR);
+    let n = read_fields(b);
     let list = read_list(b);
     Header {
-        version: version_of(major),
-        dirs: dirs_of(major, number_at(b, DIRS)),
-        fats: number_at(b, FATS),
-        dir: number_at(b, DIR),
-        minifat: number_at(b, MINIFAT),
-        minifats: number_at(b, MINIFATS),
-        difat: end_if_free(number_at(b, DIFAT)),
-        difats: number_at(b, DIFATS),
+        version: version_of(n.major),
+        dirs: dirs_of(n.major, n.dirs),
+        fats: n.fats,
+        dir: n.dir,
+        minifat: n.minifat,
+        minifats: n.minifats,
+        difat: end_if_free(n.difat),
+        difats: n.difats,
         list,
     }
 }

@@ -2,13 +2,7 @@
 use crate::ReadVerdict;
 use crate::Validation;
 use crate::Version;
-use fields::BYTE_ORDER;
-use fields::CUTOFF;
-use fields::DIRS;
-use fields::MAJOR;
-use fields::MINI_SHIFT;
-use fields::SECTOR_SHIFT;
-use fields::number_at;
+use reader::read_fields;
 ghost use mathlib.Core.Path.{_≡_};
 ghost use Prim.Native.Nat.{_≤_};
 ghost use lib.ListN.{length};
@@ -31,13 +25,14 @@ pub(crate) fn judged_by(b: &[u8]) -> Fixed
     requires { ⌜ 512 ≤ length (now b) ⌝ }
     ensures { λ r. ⌜ r ≡ fixedOf (now (b .entry)) ⌝ }
 {
+    let n = read_fields(b);
     Fixed {
-        order: number_at(b, BYTE_ORDER),
-        major: number_at(b, MAJOR),
-        shift: number_at(b, SECTOR_SHIFT),
-        mini: number_at(b, MINI_SHIFT),
-        dirs: number_at(b, DIRS),
-        cutoff: number_at(b, CUTOFF),
+        order: n.order,
+        major: n.major,
+        shift: n.shift,
+        mini: n.mini,
+        dirs: n.dirs,
+        cutoff: n.cutoff,
     }
 }
 
