@@ -3,6 +3,7 @@
 Each maker writes into a folder and gives a list of Made. A maker whose program is not there gives none, and says so.
 """
 import dataclasses
+import hashlib
 import os
 import pathlib
 import shutil
@@ -21,8 +22,6 @@ class Made:
 
 def noise(seed, length):
     """Bytes that look like nothing else, the same for the same seed."""
-    import hashlib
-
     return hashlib.shake_128(f"rasuvelk {seed}".encode()).digest(length)
 
 
@@ -145,16 +144,59 @@ def by_perl(folder):
     return made
 
 
+def by_writeexcel(folder):
+    """A sheet of 8,000 numbers."""
+    if subprocess.run(["perl", "-MSpreadsheet::WriteExcel", "-e", "1"], capture_output=True).returncode:
+        return []
+    program = """
+        my $book = Spreadsheet::WriteExcel->new($ARGV[0]);
+        my $sheet = $book->add_worksheet("numbers");
+        for my $row (0 .. 1999) { $sheet->write($row, $_, $row * $_) for 0 .. 3 }
+        $book->close;
+        print $Spreadsheet::WriteExcel::VERSION;
+    """
+    words = ["perl", "-MSpreadsheet::WriteExcel", "-e", program, str(folder / "writeexcel.xls")]
+    version = subprocess.run(words, check=True, capture_output=True, text=True).stdout
+    return [Made(folder / "writeexcel.xls", f"Spreadsheet::WriteExcel {version}", {})]
+
+
+# what is put into a file by those that are used where they are installed, and never installed by the script
+FEW = {("long",): 50_000, ("small",): 700, ("folder", "inner"): 9000}
+
+
+def few(folder):
+    """These streams; and the words that name each and the file that holds it."""
+    known, words = {}, []
+    for path, length in FEW.items():
+        known[path] = noise(path[-1], length)
+        file = folder / ".".join(path)
+        file.write_bytes(known[path])
+        words += ["/".join(path), file]
+    return known, words
+
+
+def by_ruby(folder):
+    """ruby-ole, where it is installed."""
+    if shutil.which("ruby") is None or subprocess.run(["ruby", "-role/storage", "-e", "1"], capture_output=True).returncode:
+        return []
+    known, words = few(folder)
+    program = """
+        Ole::Storage.open(ARGV.shift, "wb+") do |ole|
+          ARGV.each_slice(2) do |path, data|
+            ole.dir.mkdir(File.dirname(path)) if path.include?("/")
+            ole.file.open(path, "wb") { |out| out.write(File.binread(data)) }
+          end
+        end
+    """
+    run("ruby", "-role/storage", "-e", program, folder / "ruby.ole", *words)
+    return [Made(folder / "ruby.ole", "ruby-ole", known)]
+
+
 def by_poi(folder):
-    """Apache POI, where it is installed: the script does not install it."""
+    """Apache POI, where it is installed."""
     if not has_poi():
         return []
-    known = {("long",): noise("long", 50_000), ("small",): noise("small", 700), ("folder", "inner"): noise("inner", 9000)}
-    words = []
-    for path, data in known.items():
-        file = folder / ("poi." + ".".join(path))
-        file.write_bytes(data)
-        words += ["/".join(path), file]
+    known, words = few(folder)
     subprocess.run(poi("make", folder / "poi.ole", *words), check=True)
     return [Made(folder / "poi.ole", "Apache POI", known)]
 
@@ -165,5 +207,7 @@ MAKERS = {
     "libgsf": by_libgsf,
     "msibuild": by_msibuild,
     "OLE::Storage_Lite": by_perl,
+    "Spreadsheet::WriteExcel": by_writeexcel,
+    "ruby-ole": by_ruby,
     "Apache POI": by_poi,
 }

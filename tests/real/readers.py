@@ -68,19 +68,20 @@ class Gsf:
         listed = subprocess.run(["gsf", "list", str(file)], capture_output=True, encoding="utf-8", errors="replace")
         if listed.returncode:
             return None
-        held = {}
+        lengths = {}
         for line in listed.stdout.split("\n")[1:]:
             # a letter, a date or as many blanks, the length, the name
             found = re.fullmatch(r"f  .{19} *(\d+) (.*)", line, re.DOTALL)
-            if found is None:
-                continue
-            length, name = found.groups()
-            said = subprocess.run(["gsf", "cat", str(file), name], capture_output=True)
-            if said.returncode:
-                return None
-            if len(said.stdout) != int(length):
-                return None
-            held[tuple(name.split("/"))] = digest(said.stdout)
+            if found is not None:
+                lengths[found[2]] = int(found[1])
+        # all streams one after the other
+        said = subprocess.run(["gsf", "cat", str(file), *lengths], capture_output=True)
+        if said.returncode or len(said.stdout) != sum(lengths.values()):
+            return None
+        held, at = {}, 0
+        for name, length in lengths.items():
+            held[tuple(name.split("/"))] = digest(said.stdout[at : at + length])
+            at += length
         return held
 
 
