@@ -1,7 +1,8 @@
--- A reader in a local, lent to `read_number` for one call, and back one step on. A walk that reads several fields cites these two laws for each.
+-- A reader in a local, lent to `read_number` for one call, and back one step on. A walk that reads several fields takes one step of these for each.
 --     Reads            the contract of `read_number`.        to a δ h     what its triple binds outside: the reader h at (l, 0), under the name δ, for the lifetime a within κ
 --     lends            the local's cell, what h owns and κ's token  ⊢ ⇛ ∃ a, δ. what `read_number` asks ∗ what is kept
 --     back             what `read_number` leaves ∗ what was kept  ⊢ ⇛ the number is h's, and the cell, what it owns and κ's token are had again, at the reader one step on
+--     serves           both, as one step of a walk
 -- The laws take `Given`. The rest assumes nothing.
 use mathlib.Core.Path.{_≡_, refl, _∙_, ap, subst}
 use Prim.Native.Nat.{ℕ, _<_, _^_}
@@ -15,11 +16,11 @@ use base.Fml.{GName, Lft, Share, Fml, ftrue, fsep, fat, flft, fdead, fres, flent
 use prog.Memory.{Memory}
 use prog.Routine.{Routine}
 use prog.Wp.{Heap, Env, Calls, Loops}
-use ghost.Atoms.{Atoms, sem}
+use ghost.Atoms.{Atoms}
 use contract.BorrowLft.{meet-⊑-right}
 use contract.Lifetimes.{AllOutlive}
 use contract.Monad.{Fun, fact}
-use types.Kit.{Given, Item, mean, Post, Seq, runs, lands, ‵, raw, _⊛_, given, ⋆, some, later, _$_, _∵_, !, qed, by, move, keep, drop, use1, use2, use3, split, split3, join, learn, pick, rewrite, fsplit, fjoin, fpick, fpack, frame, await, updating, now as at-once, show, done}
+use types.Kit.{Given, Item, mean, Post, Seq, runs, lands, ‵, raw, _⊛_, given, ⋆, some, later, _$_, _∵_, !, qed, move, keep, drop, use1, use2, use3, split, split3, join, learn, pick, rewrite, fsplit, fjoin, fpick, fpack, frame, await, updating, now as at-once, show, done}
 use types.Run.{Opds}
 use types.SemTy.{Body}
 use types.Tokens.{lft-new}

@@ -1,12 +1,12 @@
 -- When a reader gives a field's number and when 0, and when its place moves on. Assumes nothing.
 use Prim.Native.Nat.{ℕ, _+_, _≤_, _<_}
-use mathlib.Core.Path.{_≡_, refl, ap, _∙_}
+use mathlib.Core.Path.{_≡_, refl, ap}
 use mathlib.Core.Bool.{Bool, true, false}
 use mathlib.Core.List.{List}
 use borrow.Author.Tests.{le-leb, lt-leb, lt-ltb, le-ltb}
 use lib.Dec.{leb}
 use lib.ListN.{length}
-use Rattle.lists.specs.Lists.{choose, both}
+use Rattle.lists.specs.Lists.{choose}
 use Rattle.lists.proofs.Cases.{both-true, both-false-left, both-false-right}
 use Rattle.fields.specs.Fields.{holdsNumber, numberAt, minorAt, majorAt, orderAt, shiftAt, miniAt, dirsAt, fatsAt, dirAt, transactionAt, cutoffAt, minifatAt, minifatsAt, difatAt, difatsAt}
 use Rattle.reader.specs.Serve.{servedAt, placeAfter, stepped, numbersOf}

@@ -1,5 +1,5 @@
-// A reader that holds a lent header and its place in the table of fields (MS-CFB 2.2). Its functions take it apart
-// and call those over a slice and a place; a caller of `number_of` sees no reader at all.
+// A reader that holds a lent header and its place in the table of fields (MS-CFB 2.2). What it gives is had by functions
+// over a slice and a place, and a caller of `read_fields` sees no reader at all.
 use fields::ENTRIES;
 use fields::MINOR;
 use fields::RESERVED;
@@ -14,21 +14,36 @@ pub struct Reader<'a> {
     pub at: usize,
 }
 
-// The numbers in a header's fields, from the minor version to the count of DIFAT sectors.
+// The numbers in a header's fields, from the minor version to the count of DIFAT sectors. Each has one word; the Rust's name
+// for it stands beside it.
 pub struct Numbers {
+    // minor_version
     pub minor: u32,
+    // version_number
     pub major: u32,
+    // byte_order_mark
     pub order: u32,
+    // sector_shift
     pub shift: u32,
+    // mini_sector_shift
     pub mini: u32,
+    // num_dir_sectors
     pub dirs: u32,
+    // num_fat_sectors
     pub fats: u32,
+    // first_dir_sector
     pub dir: u32,
+    // transaction_signature
     pub transaction: u32,
+    // mini_stream_cutoff
     pub cutoff: u32,
+    // first_minifat_sector
     pub minifat: u32,
+    // num_minifat_sectors
     pub minifats: u32,
+    // first_difat_sector
     pub difat: u32,
+    // num_difat_sectors
     pub difats: u32,
 }
 
@@ -45,7 +60,7 @@ fn holds_number(place: usize) -> bool
     place != RESERVED
 }
 
-// The number in the field at a place; 0 where there is none.
+// The number in the field at a place; 0 where the table has none, and in fewer bytes than a header's.
 fn served(b: &[u8], place: usize) -> u32
     ensures { λ r. ⌜ r ≡ servedAt (now (b .entry)) place ⌝ }
 {
@@ -58,7 +73,7 @@ fn served(b: &[u8], place: usize) -> u32
     number_at(b, place)
 }
 
-// The place behind a field.
+// The place behind a field; behind the last one, the same place.
 fn place_after(place: usize) -> usize
     ensures { λ r. ⌜ r ≡ placeAfter place ⌝ }
 {
@@ -76,7 +91,7 @@ impl<'a> Reader<'a> {
         Reader { bytes, at }
     }
 
-    // The number in the field at its place; the reader then stands at the next place.
+    // The number in the field at its place, or 0 where there is none; the reader then stands at the next place.
     pub fn read_number(&mut self) -> u32
         ensures { λ n. ⌜ (n ≡ servedAt (now (now (self .entry) .bytes)) (now (self .entry) .at)) × (now (self .exit) ≡ stepped (now (self .entry))) ⌝ }
     {
@@ -87,7 +102,7 @@ impl<'a> Reader<'a> {
     }
 }
 
-// The numbers in the fields of lent bytes, read one after another by one reader; zeros where there is no header.
+// The numbers in the fields of lent bytes, read one after another by one reader; zeros where the bytes are fewer than a header's.
 pub fn read_fields(b: &[u8]) -> Numbers
     ensures { λ r. ⌜ r ≡ numbersOf (now (b .entry)) ⌝ }
 {
@@ -97,6 +112,7 @@ pub fn read_fields(b: &[u8]) -> Numbers
     let order = r.read_number();
     let shift = r.read_number();
     let mini = r.read_number();
+    // The reserved bytes.
     r.read_number();
     let dirs = r.read_number();
     let fats = r.read_number();

@@ -42,7 +42,7 @@ use Rattle.reader.specs.Serve.{servedAt, stepped, numbersOf}
 use Rattle.reader.specs.declared.Reader.{Reader}
 use Rattle.reader.specs.declared.Numbers.{Numbers}
 use Rattle.reader.proofs.Serving.{place-moves, steps}
-use Rattle.reader.proofs.Lending.{Reads, B, own, cell, Is-found, serves}
+use Rattle.reader.proofs.Lending.{Reads, B, Is-found, serves}
 use Rattle.reader.proofs.Reader as T
 use Rattle.reader.proofs.Reader.Laws as T′
 use Rattle.reader.proofs.Numbers as N
@@ -51,7 +51,6 @@ use Rattle.reader.proofs.Reader.new as new
 use Rattle.reader.proofs.Reader.new.Symbol as new-def
 use Rattle.reader.proofs.Reader.new.Symbol.{name as #reader·Reader·new}
 use Rattle.reader.proofs.Reader.new.Met as new-thm
-use Rattle.reader.proofs.Reader.read_number as read-number
 use Rattle.reader.proofs.Reader.read_number.Symbol as read-number-def
 use Rattle.reader.proofs.Reader.read_number.Symbol.{name as #reader·Reader·read-number}
 use Rattle.reader.proofs.Reader.read_number.Met as read-number-thm

@@ -1,5 +1,5 @@
 -- What the reader gives of a whole header is the number in each field, and the definition reads the same fields.
-use mathlib.Core.Path.{_∙_, ap, ap₂}
+use mathlib.Core.Path.{_∙_, ap}
 use Rattle.header.specs.Versions.{versionOf}
 use Rattle.header.specs.Read.{dirsOf, endIfFree, headerOf}
 use borrow.Author.Needs.{needs}

@@ -1,5 +1,5 @@
 -- What the reader gives of a whole header is the number in each field, and the definition reads the same fields.
-use mathlib.Core.Path.{_≡_, _∙_}
+use mathlib.Core.Path.{_∙_}
 use Rattle.header.specs.Read.{fixedOf}
 use borrow.Author.Needs.{needs}
 use Rattle.reader.proofs.Serving.{numbers-are}
