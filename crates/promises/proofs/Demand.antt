@@ -8,8 +8,10 @@ use native.Mathlib.Omega.{arith}
 use borrow.Author.Tests.{eq-eqb, ne-eqb}
 use lib.Dec.{eqb}
 use lib.ListN.{length, getD, take}
+use lib.Seq.{getD-take}
 use Rattle.lists.specs.Lists.{choose}
 use Rattle.lists.proofs.Cases.{true-or, same-or}
+use Rattle.consts.specs.Consts.{freeSector}
 use Rattle.header.specs.Fields.{lengthOf}
 use Rattle.header.specs.Read.{headerOf}
 use Rattle.header.specs.declared.Validation.the-variants.{Strict}
@@ -23,6 +25,7 @@ use Rattle.chain.specs.Bytes.{chainBytes}
 use Rattle.chain.specs.Walk.{lists, walkOf}
 use Rattle.moves.specs.Hand.{Chain}
 use Rattle.moves.specs.Change.{idsOf}
+use Rattle.moves.proofs.Changing.{chain-listed, resized-fits, written-fits}
 use Rattle.edits.specs.Untouched.{Other, Others}
 use Rattle.cfb.specs.Calls.{stateLen, walked, chainIds, outcomeIds}
 use Rattle.cfb.specs.Changes.{chainFrom, stateFrom, tablesIn, startIn, Changes, ChainWrites, ChainResizes}
@@ -32,7 +35,8 @@ use Rattle.cfb.proofs.Refusing.{padded-front}
 use Rattle.promises.specs.Demand.{InHand, Edit, write, resize, free, named, editNo, chainNamed, chainAfter, handOf, after, Call, afterAll, opened, idsFrom, bytesFrom, startAfter, edited, Elsewhere, Another, Promised}
 use Rattle.promises.specs.Whole.{fatHeld}
 use Rattle.promises.proofs.After.{AgreesAfter, resize-agrees, resize-strict, resize-len, write-agrees, write-strict, write-len}
-use Rattle.promises.proofs.Calls.{Walks, resize-walks, resize-edits, resize-keeps, write-walks, write-edits, write-keeps}
+use Rattle.promises.proofs.Calls.{Walks, resize-fits, resize-walks, resize-edits, resize-keeps, write-fits, write-walks, write-edits, write-keeps}
+use Rattle.promises.proofs.Naming.{resize-stays, resize-gone, write-stays, write-longer}
 use Rattle.promises.proofs.Others.{Absent, resize-others-walk, write-others-walk}
 use Rattle.promises.proofs.Kept.{Sure, sure-fresh, opened-sure}
 
@@ -42,6 +46,9 @@ pub record Done (h : InHand) (room : ℕ) (e : Edit) (c : Chain) (xs : List ℕ)
   pub agrees : AgreesAfter (h .state) c
   pub len : lengthOf (headerOf (c .hand .disk .image) .version) ≡ stateLen (h .state)
   pub walks : Walks c
+  pub count : length (idsOf c) ≡ c .count
+  pub stays : (p : ℕ) → p < length (idsFrom h (named e)) → p < c .count → getD (c .ids) p 0 ≡ getD (idsFrom h (named e)) p 0
+  pub gone : (p : ℕ) → p < length (idsFrom h (named e)) → c .count ≤ p → getD (c .hand .disk .fat) (getD (idsFrom h (named e)) p 0) 0 ≡ freeSector
   pub bytes : chainBytes (stateLen (h .state)) (c .hand .disk .image) (idsOf c) ≡ xs
   pub keeps : (others : List ℕ) → Others (stateLen (h .state)) (chainNamed h room e) others
       → chainBytes (stateLen (h .state)) (c .hand .disk .image) others ≡ chainBytes (stateLen (h .state)) (h .image) others
@@ -85,6 +92,18 @@ module _ (h : InHand) (room : ℕ) (e : Edit) (c : Chain) (xs : List ℕ) (d : D
   done-bytes : bytesFrom (handOf (h .state) c) (startIn (c .ids) (c .count)) ≡ xs
   done-bytes = bytes-own _ _ _ _ _ _ done-len done-image done-ids ∙ d .bytes
 
+  done-same : (p : ℕ) → p < length (idsFrom h (named e)) → p < length (idsFrom (handOf (h .state) c) (startIn (c .ids) (c .count)))
+      → getD (idsFrom (handOf (h .state) c) (startIn (c .ids) (c .count))) p 0 ≡ getD (idsFrom h (named e)) p 0
+  unfolding idsOf
+  done-same p a b =
+      let l : p < c .count = omega (arith, b, ap (λ (xs : List ℕ). length xs) done-ids, d .count) in
+      ap (λ (xs : List ℕ). getD xs p 0) done-ids ∙ getD-take (c .count) (c .ids) p 0 l ∙ d .stays p a l
+
+  done-gone : (p : ℕ) → p < length (idsFrom h (named e)) → length (idsFrom (handOf (h .state) c) (startIn (c .ids) (c .count))) ≤ p
+      → getD (handOf (h .state) c .tables .fat) (getD (idsFrom h (named e)) p 0) 0 ≡ freeSector
+  unfolding handOf tablesIn
+  done-gone p a b = d .gone p a (omega (arith, b, ap (λ (xs : List ℕ). length xs) done-ids, d .count))
+
   done-others : (x : ℕ) (ids : List ℕ) → Another h e x ids → walked (handOf (h .state) c .state) (handOf (h .state) c .tables) x ≡ lists ids
   unfolding walked
   done-others x ids a = done-walked x ∙ d .others x ids (a .apart) (a .walks)
@@ -115,6 +134,9 @@ write-done h room start offset buf z =
       agrees = write-agrees (h .state) (h .image) (h .tables) room start offset buf z;
       len = write-len (h .state) (h .image) (h .tables) room start offset buf z;
       walks = write-walks (h .state) (h .image) (h .tables) room start offset buf z;
+      count = chain-listed (stateLen (h .state)) _ _ (written-fits (stateLen (h .state)) _ offset buf _ (write-fits (h .state) (h .image) (h .tables) room start offset buf z));
+      stays = λ p a b. write-stays (h .state) (h .image) (h .tables) room start offset buf z p a;
+      gone = λ p a b. absurd (omega (arith, a, b, write-longer (h .state) (h .image) (h .tables) room start offset buf z));
       bytes = write-edits (h .state) (h .image) (h .tables) room start offset buf z;
       keeps = write-keeps (h .state) (h .image) (h .tables) room start offset buf z;
       others = write-others-walk (h .state) (h .image) (h .tables) room start offset buf z;
@@ -128,6 +150,9 @@ resize-done h room start len z =
       agrees = resize-agrees (h .state) (h .image) (h .tables) room start len z;
       len = resize-len (h .state) (h .image) (h .tables) room start len z;
       walks = resize-walks (h .state) (h .image) (h .tables) room start len z;
+      count = chain-listed (stateLen (h .state)) _ _ (resized-fits (stateLen (h .state)) _ len _ (resize-fits (h .state) (h .image) (h .tables) room start len z));
+      stays = resize-stays (h .state) (h .image) (h .tables) room start len z;
+      gone = resize-gone (h .state) (h .image) (h .tables) room start len z;
       bytes = resize-edits (h .state) (h .image) (h .tables) room start len z;
       keeps = resize-keeps (h .state) (h .image) (h .tables) room start len z;
       others = resize-others-walk (h .state) (h .image) (h .tables) room start len z;
@@ -143,7 +168,7 @@ free-done : (h : InHand) (room start : ℕ) → editNo h room (free start) ≡ 0
     → Done h room (free start) (chainAfter h room (free start)) (edited (stateLen (h .state)) (free start) (bytesFrom h start) (length (idsFrom h start)))
 free-done h room start z =
     let d = resize-done h room start 0 z in
-    record { strict = d .strict; agrees = d .agrees; len = d .len; walks = d .walks; bytes = d .bytes ∙ no-byte (h .state .header .version); keeps = d .keeps; others = d .others }
+    record { strict = d .strict; agrees = d .agrees; len = d .len; walks = d .walks; count = d .count; stays = d .stays; gone = d .gone; bytes = d .bytes ∙ no-byte (h .state .header .version); keeps = d .keeps; others = d .others }
 
 -- an accepted edit
 edit-done : (h : InHand) (room : ℕ) (e : Edit) → editNo h room e ≡ 0
@@ -181,6 +206,8 @@ call-promised h room e s =
     record {
       fresh = sure-fresh (after h room e) (after-sure h room e s);
       exactly = λ z. rw (after-accepted h room e z) (done-bytes h room e _ _ (edit-done h room e z));
+      same = λ z. rw (after-accepted h room e z) (done-same h room e _ _ (edit-done h room e z));
+      gone = λ z. rw (after-accepted h room e z) (done-gone h room e _ _ (edit-done h room e z));
       refused = after-refused h room e;
       elsewhere = λ i w.
           ⊎-elim

@@ -11,6 +11,7 @@ pub mod Forming
 pub mod Graph
 pub mod Growing
 pub mod Kept
+pub mod Naming
 pub mod Others
 pub mod Parts
 pub mod Placing

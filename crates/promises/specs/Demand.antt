@@ -6,6 +6,7 @@ use mathlib.Core.Logic.{_≢_}
 use lib.Dec.{eqb}
 use lib.ListN.{length, getD, take, replicate}
 use Rattle.lists.specs.Lists.{choose, splice}
+use Rattle.consts.specs.Consts.{freeSector}
 use Rattle.header.specs.declared.Validation.the-variants.{Strict}
 use Rattle.fat.specs.Lists.{ceil}
 use Rattle.sectors.specs.Sectors.{sectorOf}
@@ -130,6 +131,12 @@ pub record Promised (h : InHand) (room : ℕ) (e : Edit) (h' : InHand) : Type 0 
   pub fresh : Fresh h'
   -- "After an accepted call the named chain holds its old bytes with exactly that edit;"
   pub exactly : editNo h room e ≡ 0 → bytesFrom h' (startAfter h room e) ≡ edited (stateLen (h .state)) e (bytesFrom h (named e)) (length (idsFrom h (named e)))
+  -- and it is still that chain: it keeps its first sectors, so that the sector which named it names it still, unless it had none or has none then,
+  pub same : editNo h room e ≡ 0 → (p : ℕ) → p < length (idsFrom h (named e)) → p < length (idsFrom h' (startAfter h room e))
+      → getD (idsFrom h' (startAfter h room e)) p 0 ≡ getD (idsFrom h (named e)) p 0
+  -- and the sectors that it has no more are FREE: after a free, all that it had
+  pub gone : editNo h room e ≡ 0 → (p : ℕ) → p < length (idsFrom h (named e)) → length (idsFrom h' (startAfter h room e)) ≤ p
+      → getD (h' .tables .fat) (getD (idsFrom h (named e)) p 0) 0 ≡ freeSector
   -- "a refused one leaves every chain as it was."
   pub refused : editNo h room e ≢ 0 → h' ≡ h
   -- "Every sector neither free before nor in the named chain keeps its bytes, apart from FAT and DIFAT sectors,"

@@ -1,0 +1,96 @@
+-- The chain that an edit names is still the same chain after it: it keeps its first sectors, and those that it has no more are FREE. Assumes nothing.
+use Prim.Native.Nat.{ℕ, _+_, _-_, _≤_, _<_}
+use mathlib.Core.Path.{_≡_, refl, sym, _∙_, ap}
+use mathlib.Core.List.{List}
+use mathlib.Core.Logic.{⊎-elim, _≢_}
+use native.Mathlib.Omega.{arith}
+use lib.ListN.{length, getD, take}
+use lib.Seq.{getD-take, length-take-le}
+use Rattle.lists.proofs.Cases.{below-or}
+use Rattle.consts.specs.Consts.{freeSector}
+use Rattle.fat.specs.Lists.{roomOf, ceil}
+use Rattle.alloc.specs.Opening.{Tables}
+use Rattle.disk.specs.Needed.{resizeMore, writeMore}
+use Rattle.moves.specs.Hand.{Chain, extend}
+use Rattle.moves.specs.Change.{shrink, withImage, resized, written, FitsResize, FitsWrite}
+use Rattle.moves.proofs.Shrinking.{shrink-free}
+use Rattle.moves.proofs.Changing.{resized-more, resized-fewer, resize-shrink, resized-fits, resized-count, written-count}
+use Rattle.edits.proofs.Edits.{ids-stay, ids-kept, resized-freed}
+use Rattle.cfb.specs.Calls.{stateLen, chainIds}
+use Rattle.cfb.specs.Changes.{resizeNo, writeNo, chainFrom}
+use Rattle.cfb.specs.declared.State.{State}
+use Rattle.cfb.proofs.Refusing.{padded-front}
+use Rattle.promises.specs.Whole.{Formed, fatHeld}
+use Rattle.promises.proofs.Calls.{resize-fits, resize-forms, write-fits}
+
+-- document 01, Resize: the chain keeps its first sectors, as many as it has before and after
+pub resized-stay : (S R len : ℕ) (c : Chain) → FitsResize S R len c → (p : ℕ) → p < c .count → p < resized S c len .count → getD (resized S c len .ids) p 0 ≡ getD (c .ids) p 0
+unfolding withImage
+resized-stay S R len c f p a b =
+    let q : p < ceil len S = omega (arith, b, resized-count S R len c f) in
+    ⊎-elim
+    (λ (l : c .count < ceil len S). rw (resized-more S c len l) (ids-stay S R (resizeMore S (c .count) len) c (f .fits) p a))
+    (λ (g : ceil len S ≤ c .count). rw (resized-fewer S c len g) (ids-kept S R (ceil len S) c (resize-shrink S R len c f (ceil len S) g) p q))
+    (below-or (c .count) (ceil len S))
+
+resized-free : (S R len : ℕ) (c : Chain) (f : FitsResize S R len c) → ceil len S ≤ c .count → resized S c len .hand .free ≡ c .hand .free + (c .count - ceil len S)
+unfolding withImage
+resized-free S R len c f g = rw (resized-fewer S c len g) (shrink-free S R (ceil len S) c (resize-shrink S R len c f (ceil len S) g))
+
+-- and the sectors that it has no more are FREE
+pub resized-gone : (S R len : ℕ) (c : Chain) → FitsResize S R len c → Formed S (resized S c len .hand) → (p : ℕ) → p < c .count → resized S c len .count ≤ p
+    → getD (resized S c len .hand .disk .fat) (getD (c .ids) p 0) 0 ≡ freeSector
+resized-gone S R len c f w p a b =
+    let e = resized-count S R len c f in
+    let i : ℕ = p - ceil len S in
+    let under : i < c .count - ceil len S = omega (arith, a, b, e) in
+    let fewer : ceil len S ≤ c .count = omega (arith, a, b, e) in
+    let place : ceil len S + i ≡ p = omega (arith, b, e) in
+    let n : ℕ = resized S c len .hand .free in
+    let many : n ≡ c .hand .free + (c .count - ceil len S) = resized-free S R len c f fewer in
+    let g = resized-fits S R len c f in
+    let j : ℕ = c .hand .free + i in
+    let lower : j < n = omega (arith, many, under) in
+    let long : length (take n (resized S c len .hand .frees)) ≡ n = length-take-le n (resized S c len .hand .frees) (omega (arith, g .fits .free-few, g .fits .disk .inside, g .fits .frees-long)) in
+    let within : j < length (take n (resized S c len .hand .frees)) = omega (arith, long, lower) in
+    let listed : getD (take n (resized S c len .hand .frees)) j 0 ≡ getD (c .ids) p 0 =
+    getD-take n (resized S c len .hand .frees) j 0 lower ∙ resized-freed S R len c f i under ∙ ap (λ (k : ℕ). getD (c .ids) k 0) place in
+    let below : getD (c .ids) p 0 < resized S c len .hand .disk .sectors = rw listed at (w .frees .below j within) in
+    sym (getD-take (resized S c len .hand .disk .sectors) (resized S c len .hand .disk .fat) (getD (c .ids) p 0) 0 below)
+    ∙ ap (λ (x : ℕ). getD (fatHeld (resized S c len .hand .disk)) x 0) (sym listed)
+    ∙ w .frees .free j within
+
+-- document 01, Write: it keeps all of its sectors
+pub written-stay : (S R offset : ℕ) (buf : List ℕ) (c : Chain) → FitsWrite S R offset (length buf) c → (p : ℕ) → p < c .count → getD (written S c offset buf .ids) p 0 ≡ getD (c .ids) p 0
+unfolding written withImage
+written-stay S R offset buf c f p a = ids-stay S R (writeMore S (c .count) offset (length buf)) c (f .fits) p a
+
+module _ (s : State) (img : List ℕ) (t : Tables) (room start : ℕ) where
+  abbrev before : Chain
+  before = chainFrom s img t room start
+
+  before-at : (p : ℕ) → p < length (chainIds s t start) → getD (before .ids) p 0 ≡ getD (chainIds s t start) p 0
+  unfolding chainFrom
+  before-at p a = padded-front (chainIds s t start) room p a
+
+  before-count : before .count ≡ length (chainIds s t start)
+  unfolding chainFrom
+  before-count = refl
+
+  -- an accepted resize
+  module _ (len : ℕ) (z : resizeNo s img t room start len ≡ 0) where
+    pub resize-stays : (p : ℕ) → p < length (chainIds s t start) → p < resized (stateLen s) before len .count → getD (resized (stateLen s) before len .ids) p 0 ≡ getD (chainIds s t start) p 0
+    resize-stays p a b = resized-stay (stateLen s) _ len before (resize-fits s img t room start len z) p (rw before-count a) b ∙ before-at p a
+
+    pub resize-gone : (p : ℕ) → p < length (chainIds s t start) → resized (stateLen s) before len .count ≤ p → getD (resized (stateLen s) before len .hand .disk .fat) (getD (chainIds s t start) p 0) 0 ≡ freeSector
+    resize-gone p a b =
+        ap (λ (x : ℕ). getD (resized (stateLen s) before len .hand .disk .fat) x 0) (sym (before-at p a))
+        ∙ resized-gone (stateLen s) _ len before (resize-fits s img t room start len z) (resize-forms s img t room start len z) p (rw before-count a) b
+
+  -- an accepted write
+  module _ (offset : ℕ) (buf : List ℕ) (z : writeNo s img t room start offset (length buf) ≡ 0) where
+    pub write-stays : (p : ℕ) → p < length (chainIds s t start) → getD (written (stateLen s) before offset buf .ids) p 0 ≡ getD (chainIds s t start) p 0
+    write-stays p a = written-stay (stateLen s) _ offset buf before (write-fits s img t room start offset buf z) p (rw before-count a) ∙ before-at p a
+
+    pub write-longer : length (chainIds s t start) ≤ written (stateLen s) before offset buf .count
+    write-longer = omega (arith, written-count (stateLen s) before offset buf, before-count)
