@@ -5,6 +5,7 @@ pub mod Cases
 pub mod Coding
 pub mod Demand
 pub mod Encoding
+pub mod Ending
 pub mod Entries
 pub mod Following
 pub mod Forming
