@@ -16,7 +16,7 @@ use Rattle.moves.proofs.Extending.{extend-none, extend-more}
 use Rattle.moves.proofs.Shrinking.{shrink-none, shrink-some, shrink-count, shrink-place}
 use Rattle.moves.proofs.Changing.{resized-more, resized-fewer, resize-shrink}
 use Rattle.cfb.specs.Calls.{stateLen, chainIds}
-use Rattle.cfb.specs.Changes.{resizeNo, writeNo, chainFrom}
+use Rattle.cfb.specs.Changes.{resizeNo, chainFrom}
 use Rattle.cfb.specs.declared.State.{State}
 use Rattle.promises.proofs.Calls.{resize-fits}
 use Rattle.promises.proofs.Walks.{zero-past}

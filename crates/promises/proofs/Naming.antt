@@ -2,17 +2,17 @@
 use Prim.Native.Nat.{ℕ, _+_, _-_, _≤_, _<_}
 use mathlib.Core.Path.{_≡_, refl, sym, _∙_, ap}
 use mathlib.Core.List.{List}
-use mathlib.Core.Logic.{⊎-elim, _≢_}
+use mathlib.Core.Logic.{⊎-elim}
 use native.Mathlib.Omega.{arith}
 use lib.ListN.{length, getD, take}
 use lib.Seq.{getD-take, length-take-le}
 use Rattle.lists.proofs.Cases.{below-or}
 use Rattle.consts.specs.Consts.{freeSector}
-use Rattle.fat.specs.Lists.{roomOf, ceil}
+use Rattle.fat.specs.Lists.{ceil}
 use Rattle.alloc.specs.Opening.{Tables}
 use Rattle.disk.specs.Needed.{resizeMore, writeMore}
-use Rattle.moves.specs.Hand.{Chain, extend}
-use Rattle.moves.specs.Change.{shrink, withImage, resized, written, FitsResize, FitsWrite}
+use Rattle.moves.specs.Hand.{Chain}
+use Rattle.moves.specs.Change.{withImage, resized, written, FitsResize, FitsWrite}
 use Rattle.moves.proofs.Shrinking.{shrink-free}
 use Rattle.moves.proofs.Changing.{resized-more, resized-fewer, resize-shrink, resized-fits, resized-count, written-count}
 use Rattle.edits.proofs.Edits.{ids-stay, ids-kept, resized-freed}
