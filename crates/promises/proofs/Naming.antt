@@ -7,20 +7,25 @@ use native.Mathlib.Omega.{arith}
 use lib.ListN.{length, getD, take}
 use lib.Seq.{getD-take, length-take-le}
 use Rattle.lists.proofs.Cases.{below-or}
-use Rattle.consts.specs.Consts.{freeSector}
-use Rattle.fat.specs.Lists.{ceil}
+use Rattle.consts.specs.Consts.{endOfChain, freeSector}
+use Rattle.fat.specs.Lists.{ceil, roomOf}
 use Rattle.alloc.specs.Opening.{Tables}
 use Rattle.disk.specs.Needed.{resizeMore, writeMore}
+use Rattle.chain.specs.Walk.{Outcome, lists, refuses}
+use Rattle.chain.proofs.Chains.{lists-exactly}
 use Rattle.moves.specs.Hand.{Chain}
+use Rattle.moves.specs.Fits.{FitsChain}
 use Rattle.moves.specs.Change.{withImage, resized, written, FitsResize, FitsWrite}
 use Rattle.moves.proofs.Shrinking.{shrink-free}
 use Rattle.moves.proofs.Changing.{resized-more, resized-fewer, resize-shrink, resized-fits, resized-count, written-count}
 use Rattle.edits.proofs.Edits.{ids-stay, ids-kept, resized-freed}
-use Rattle.cfb.specs.Calls.{stateLen, chainIds}
-use Rattle.cfb.specs.Changes.{resizeNo, writeNo, chainFrom}
+use Rattle.cfb.specs.Calls.{stateLen, walked, outcomeIds, chainIds}
+use Rattle.cfb.specs.Changes.{changeNo, resizeNo, writeNo, chainFrom}
 use Rattle.cfb.specs.declared.State.{State}
 use Rattle.cfb.proofs.Refusing.{padded-front}
 use Rattle.promises.specs.Whole.{Formed, fatHeld}
+use Rattle.promises.proofs.Base.{roles-of}
+use Rattle.promises.proofs.Graph.{getD-any, held-length}
 use Rattle.promises.proofs.Calls.{resize-fits, resize-forms, write-fits}
 
 -- document 01, Resize: the chain keeps its first sectors, as many as it has before and after
@@ -94,3 +99,18 @@ module _ (s : State) (img : List ℕ) (t : Tables) (room start : ℕ) where
 
     pub write-longer : length (chainIds s t start) ≤ written (stateLen s) before offset buf .count
     write-longer = omega (arith, written-count (stateLen s) before offset buf, before-count)
+
+-- ids that are listed were listed by a walk
+listed-walk : (o : Outcome) → 0 < length (outcomeIds o) → o ≡ lists (outcomeIds o)
+unfolding outcomeIds
+listed-walk (lists ids) some = refl
+listed-walk (refuses k) some = absurd (omega (arith, some))
+
+-- document 01, Walk: a chain of some sectors begins with its start
+pub first-named : (s : State) (img : List ℕ) (t : Tables) (room start : ℕ) → changeNo s img t room start ≡ 0 → 0 < length (chainIds s t start) → getD (chainIds s t start) 0 0 ≡ start
+unfolding chainFrom chainIds walked
+first-named s img t room start z some =
+    let f : FitsChain (stateLen s) (roomOf (stateLen s) (length img)) (chainFrom s img t room start) = roles-of s img t room start z .fits in
+    getD-any (chainIds s t start) 0 0 endOfChain some
+    ∙ lists-exactly (take (s .sectors) (t .fat)) start (chainIds s t start) (omega (arith, held-length (stateLen s) _ (chainFrom s img t room start) f, f .fits .disk .inside, f .fits .disk .few)) .0
+    (listed-walk (walked s t start) some) .first
