@@ -1,5 +1,5 @@
 -- The third demand: after any list of edits, what is in hand is what the bytes say, and each call did its edit and nothing else. Assumes nothing.
-use Prim.Native.Nat.{ℕ, zero, suc, _*_, _<_}
+use Prim.Native.Nat.{ℕ, zero, suc, _*_, _≤_, _<_}
 use mathlib.Core.Path.{_≡_, refl, sym, _∙_, ap}
 use mathlib.Core.List.{List, [], _∷_, append-nil, flatMap}
 use mathlib.Core.Logic.{⊎-elim, _≢_}
@@ -30,8 +30,8 @@ use Rattle.cfb.proofs.Refusing.{padded-front}
 use Rattle.promises.specs.Demand.{InHand, Edit, write, resize, free, named, editNo, chainNamed, chainAfter, handOf, after, Call, afterAll, opened, idsFrom, bytesFrom, edited, Elsewhere, Another, Promised}
 use Rattle.promises.specs.Whole.{fatHeld}
 use Rattle.promises.proofs.After.{AgreesAfter, resize-agrees, resize-strict, resize-len, write-agrees, write-strict, write-len}
-use Rattle.promises.proofs.Calls.{Walks, resize-fits, resize-walks, resize-edits, resize-keeps, write-fits, write-walks, write-edits, write-keeps}
-use Rattle.promises.proofs.Naming.{resize-stays, resize-gone, write-stays, write-longer}
+use Rattle.promises.proofs.Calls.{Walks, resize-rows, resize-fits, resize-walks, resize-edits, resize-keeps, write-rows, write-fits, write-walks, write-edits, write-keeps}
+use Rattle.promises.proofs.Naming.{first-named, resize-stays, resize-gone, write-stays, write-longer}
 use Rattle.promises.proofs.Others.{Absent, resize-others-walk, resize-others-bytes, write-others-walk, write-others-bytes}
 use Rattle.promises.proofs.Kept.{Sure, sure-fresh, opened-sure}
 
@@ -42,6 +42,7 @@ pub record Done (h : InHand) (room : ℕ) (e : Edit) (c : Chain) (xs : List ℕ)
   pub len : lengthOf (headerOf (c .hand .disk .image) .version) ≡ stateLen (h .state)
   pub walks : Walks c
   pub count : length (idsOf c) ≡ c .count
+  pub first : 0 < length (idsFrom h (named e)) → getD (idsFrom h (named e)) 0 0 ≡ named e
   pub stays : (p : ℕ) → p < length (idsFrom h (named e)) → p < c .count → getD (c .ids) p 0 ≡ getD (idsFrom h (named e)) p 0
   pub gone : (p : ℕ) → p < length (idsFrom h (named e)) → c .count ≤ p → getD (c .hand .disk .fat) (getD (idsFrom h (named e)) p 0) 0 ≡ freeSector
   pub bytes : chainBytes (stateLen (h .state)) (c .hand .disk .image) (idsOf c) ≡ xs
@@ -88,6 +89,12 @@ module _ (h : InHand) (room : ℕ) (e : Edit) (c : Chain) (xs : List ℕ) (d : D
 
   done-bytes : bytesFrom (handOf (h .state) c) (startIn (c .ids) (c .count)) ≡ xs
   done-bytes = bytes-own _ _ _ _ _ _ done-len done-image done-ids ∙ d .bytes
+
+  done-start : 0 < length (idsFrom h (named e)) → 0 < length (idsFrom (handOf (h .state) c) (startIn (c .ids) (c .count))) → startIn (c .ids) (c .count) ≡ named e
+  unfolding startIn
+  done-start a b =
+      let l : 0 < c .count = omega (arith, b, ap (λ (xs : List ℕ). length xs) done-ids, d .count) in
+      rw (ne-eqb (c .count) 0 (omega (arith, l))) (d .stays 0 a l ∙ d .first a)
 
   done-same : (p : ℕ) → p < length (idsFrom h (named e)) → p < length (idsFrom (handOf (h .state) c) (startIn (c .ids) (c .count)))
       → getD (idsFrom (handOf (h .state) c) (startIn (c .ids) (c .count))) p 0 ≡ getD (idsFrom h (named e)) p 0
@@ -136,6 +143,7 @@ write-done h room start offset buf z =
       len = write-len (h .state) (h .image) (h .tables) room start offset buf z;
       walks = write-walks (h .state) (h .image) (h .tables) room start offset buf z;
       count = chain-listed (stateLen (h .state)) _ _ (written-fits (stateLen (h .state)) _ offset buf _ (write-fits (h .state) (h .image) (h .tables) room start offset buf z));
+      first = first-named (h .state) (h .image) (h .tables) room start (write-rows (h .state) (h .image) (h .tables) room start offset buf z .0);
       stays = λ p a b. write-stays (h .state) (h .image) (h .tables) room start offset buf z p a;
       gone = λ p a b. absurd (omega (arith, a, b, write-longer (h .state) (h .image) (h .tables) room start offset buf z));
       bytes = write-edits (h .state) (h .image) (h .tables) room start offset buf z;
@@ -153,6 +161,7 @@ resize-done h room start len z =
       len = resize-len (h .state) (h .image) (h .tables) room start len z;
       walks = resize-walks (h .state) (h .image) (h .tables) room start len z;
       count = chain-listed (stateLen (h .state)) _ _ (resized-fits (stateLen (h .state)) _ len _ (resize-fits (h .state) (h .image) (h .tables) room start len z));
+      first = first-named (h .state) (h .image) (h .tables) room start (resize-rows (h .state) (h .image) (h .tables) room start len z .0);
       stays = resize-stays (h .state) (h .image) (h .tables) room start len z;
       gone = resize-gone (h .state) (h .image) (h .tables) room start len z;
       bytes = resize-edits (h .state) (h .image) (h .tables) room start len z;
@@ -171,7 +180,7 @@ free-done : (h : InHand) (room start : ℕ) → editNo h room (free start) ≡ 0
     → Done h room (free start) (chainAfter h room (free start)) (edited (stateLen (h .state)) (free start) (bytesFrom h start) (length (idsFrom h start)))
 free-done h room start z =
     let d = resize-done h room start 0 z in
-    record { strict = d .strict; agrees = d .agrees; len = d .len; walks = d .walks; count = d .count; stays = d .stays; gone = d .gone; bytes = d .bytes ∙ no-byte (h .state .header .version); keeps = d .keeps; others = d .others; others-bytes = d .others-bytes }
+    record { strict = d .strict; agrees = d .agrees; len = d .len; walks = d .walks; count = d .count; first = d .first; stays = d .stays; gone = d .gone; bytes = d .bytes ∙ no-byte (h .state .header .version); keeps = d .keeps; others = d .others; others-bytes = d .others-bytes }
 
 -- an accepted edit
 edit-done : (h : InHand) (room : ℕ) (e : Edit) → editNo h room e ≡ 0
@@ -209,6 +218,7 @@ call-promised h room e s =
     record {
       fresh = sure-fresh (after h room e) (after-sure h room e s);
       exactly = λ z. rw (after-accepted h room e z) (done-bytes h room e _ _ (edit-done h room e z));
+      start = λ z. rw (after-accepted h room e z) (done-start h room e _ _ (edit-done h room e z));
       same = λ z. rw (after-accepted h room e z) (done-same h room e _ _ (edit-done h room e z));
       gone = λ z. rw (after-accepted h room e z) (done-gone h room e _ _ (edit-done h room e z));
       refused = after-refused h room e;

@@ -94,3 +94,18 @@ module _ (s : State) (img : List ℕ) (t : Tables) (room start : ℕ) where
 
     pub write-longer : length (chainIds s t start) ≤ written (stateLen s) before offset buf .count
     write-longer = omega (arith, written-count (stateLen s) before offset buf, before-count)
+
+-- ids that are listed were listed by a walk
+listed-walk : (o : Outcome) → 0 < length (outcomeIds o) → o ≡ lists (outcomeIds o)
+unfolding outcomeIds
+listed-walk (lists ids) some = refl
+listed-walk (refuses k) some = absurd (omega (arith, some))
+
+-- document 01, Walk: a chain of some sectors begins with its start
+pub first-named : (s : State) (img : List ℕ) (t : Tables) (room start : ℕ) → changeNo s img t room start ≡ 0 → 0 < length (chainIds s t start) → getD (chainIds s t start) 0 0 ≡ start
+unfolding chainFrom chainIds walked
+first-named s img t room start z some =
+    let f : FitsChain (stateLen s) (roomOf (stateLen s) (length img)) (chainFrom s img t room start) = roles-of s img t room start z .fits in
+    getD-any (chainIds s t start) 0 0 endOfChain some
+    ∙ lists-exactly (take (s .sectors) (t .fat)) start (chainIds s t start) (omega (arith, held-length (stateLen s) _ (chainFrom s img t room start) f, f .fits .disk .inside, f .fits .disk .few)) .0
+    (listed-walk (walked s t start) some) .first

@@ -131,7 +131,9 @@ pub record Promised (h : InHand) (room : ℕ) (e : Edit) (h' : InHand) : Type 0 
   pub fresh : Fresh h'
   -- accepted: the chain from the start that is answered has the old bytes of the named one, edited as asked and in no other way
   pub exactly : editNo h room e ≡ 0 → bytesFrom h' (startAfter h room e) ≡ edited (stateLen (h .state)) e (bytesFrom h (named e)) (length (idsFrom h (named e)))
-  -- and it is still that chain: it keeps its first sectors, so that the sector which named it names it still, unless it had none or has none then,
+  -- and it is still that chain: the sector which named it names it still, unless it had none or has none then,
+  pub start : editNo h room e ≡ 0 → 0 < length (idsFrom h (named e)) → 0 < length (idsFrom h' (startAfter h room e)) → startAfter h room e ≡ named e
+  -- it keeps its first sectors, as many as it had and has,
   pub same : editNo h room e ≡ 0 → (p : ℕ) → p < length (idsFrom h (named e)) → p < length (idsFrom h' (startAfter h room e))
       → getD (idsFrom h' (startAfter h room e)) p 0 ≡ getD (idsFrom h (named e)) p 0
   -- and the sectors that it has no more are FREE: after a free, all that it had
