@@ -165,6 +165,8 @@ class Check:
         self.said.append(f"{file.name}: {wrong} entries past its {sectors} sectors are not FREE; with these FREE: {told}")
         if not told.startswith("opened"):
             raise Wrong(f"{mended.name}: {told}")
+        if readers.contents(mended) != readers.contents(file):
+            raise Wrong(f"{mended.name} has other streams than {file.name}")
         return mended
 
     def read(self, files):
