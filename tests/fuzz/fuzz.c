@@ -1,14 +1,14 @@
 /*
  * Hostile input over the C boundary: fuzz COUNT SEED SLIP FILE..
  *
- * COUNT is a number of cases, a number of seconds with an `s` behind it, or one case by its number with an `=` before it.
+ * COUNT is a number of cases, a number of seconds with an `s` behind it, or one case by its number with an `=` before.
  * Case i of a seed is the same at every run with the same files. A case takes a real file or makes an image, changes some of
  * its numbers, lends memory of some length that is full of rubbish, opens, and calls: every function that the archive has,
  * with starts, offsets and lengths of all kinds, on the state and tables that the opening gave, or on changed ones. Each
- * answer, and what every lent buffer holds then, is compared with judge.h, down to the last byte. lend.h has the memory.
+ * answer, and what every lent buffer holds then, is compared with judge.h, to the last byte. lend.h has the memory.
  *
- * SLIP is 0. Any other is a mistake that this program makes itself after a call, to see that it is noticed: see slip_open and
- * slip_call. With `slips` for COUNT it says how many there are.
+ * SLIP is 0. Any other is a mistake that this program makes itself after a call, to see that it is noticed: see slip_open
+ * and slip_call. With `slips` for COUNT it says how many there are.
  */
 #include "lend.h"
 
@@ -57,7 +57,7 @@ static void noted(uint64_t number)
     calls++;
 }
 
-/* ------------------------------------------------------------------------------------------------------------------ lent */
+/* -------------------------------------------------------------------------------------------------------------- lent */
 
 enum { IMAGE, FAT, FATS, DIFATS, FREES, MARKS, IDS, STATE, ANSWER, BUF, HEADER, ITEM, TEXT, LIST, ZONES };
 
@@ -110,7 +110,7 @@ static lent all_lent(void)
     return l;
 }
 
-/* ----------------------------------------------------------------------------------------------------------------- slips */
+/* ------------------------------------------------------------------------------------------------------------- slips */
 
 enum {
     NO_SLIP,
@@ -206,7 +206,7 @@ static void slip_call(uint32_t number, const call *c, lent *l, uint8_t *buf, ras
     }
 }
 
-/* ---------------------------------------------------------------------------------------------------------------- opening */
+/* ----------------------------------------------------------------------------------------------------------- opening */
 
 static opened judged_open;
 
@@ -355,7 +355,7 @@ static void try_items(void)
     noted(kind);
 }
 
-/* ----------------------------------------------------------------------------------------------------------------- chains */
+/* ------------------------------------------------------------------------------------------------------------ chains */
 
 static judged must_call;
 static opened fresh;
@@ -510,8 +510,10 @@ static uint32_t try_call(lent l, const call *c)
         CHECK(number == 11 ? zone_same(&zones[IDS]) : zeros_from(l.ids, 0, l.ids_len), "the ids after %u", number);
     }
     /* what is lent behind the length that the call was told stays too */
-    CHECK(memcmp(l.ids + l.ids_len, zones[IDS].before + 4 * l.ids_len, zones[IDS].len - 4 * l.ids_len) == 0, "behind the ids");
-    CHECK(memcmp(l.fat + l.fat_len, zones[FAT].before + 4 * l.fat_len, zones[FAT].len - 4 * l.fat_len) == 0, "behind the fat");
+    CHECK(memcmp(l.ids + l.ids_len, zones[IDS].before + 4 * l.ids_len, zones[IDS].len - 4 * l.ids_len) == 0,
+          "behind the ids");
+    CHECK(memcmp(l.fat + l.fat_len, zones[FAT].before + 4 * l.fat_len, zones[FAT].len - 4 * l.fat_len) == 0,
+          "behind the fat");
     CHECK(memcmp(l.image + l.image_len, zones[IMAGE].before + l.image_len, zones[IMAGE].len - l.image_len) == 0,
           "behind the image");
     check_edges("a call on a chain");
@@ -640,7 +642,7 @@ static void try_calls(size_t count)
     }
 }
 
-/* ------------------------------------------------------------------------------------------------------------------ cases */
+/* ------------------------------------------------------------------------------------------------------------- cases */
 
 enum { FILES = 64 };
 
@@ -728,7 +730,9 @@ static void one_case(uint64_t number)
         } while (once_in(3));
     }
     if (once_in(8)) {
-        used = once_in(2) ? used - 512 + 256 * below(5) : once_in(2) ? below(zones[IMAGE].len + 600) : (size_t)bad_long(used);
+        used = once_in(2)   ? used - 512 + 256 * below(5)
+               : once_in(2) ? below(zones[IMAGE].len + 600)
+                            : (size_t)bad_long(used);
     }
     len = once_in(3) ? below(513) : zones[IMAGE].len;
     try_header(len < zones[IMAGE].len ? len : zones[IMAGE].len, mode);
@@ -753,7 +757,8 @@ static void check_met(void)
         for (number = 0; number <= 26; number++) {
             int can = number == 0 || number == 11 || (number >= 19 && number <= 22) ||
                       (number == 23 && (what == READ_CHAIN || what == WRITE_CHAIN)) ||
-                      (number == 24 && (what == WRITE_CHAIN || what == RESIZE_CHAIN)) || (number >= 25 && what >= WRITE_CHAIN);
+                      (number == 24 && (what == WRITE_CHAIN || what == RESIZE_CHAIN)) ||
+                      (number >= 25 && what >= WRITE_CHAIN);
             CHECK((met_call[what][number] > 0) == can, "call %zu was answered by %zu %llu times", what, number,
                   (unsigned long long)met_call[what][number]);
         }
