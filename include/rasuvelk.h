@@ -1,8 +1,8 @@
 /*
- * rasuvelk: header, FAT, DIFAT and sector chains of compound files (OLE, MS-CFB), with every call proved.
+ * rasuvelk: header, FAT, DIFAT and sector chains of compound files (OLE, MS-CFB).
  *
- * `scripts/host-archive export` makes the archive to link, target/host/libexport.a. It needs nothing but a C library's
- * memcpy, memset and the like. No function allocates, keeps anything or has a state of its own: all memory is the
+ * `scripts/host-archive export` proves the functions below and makes the archive to link, target/host/libexport.a. It
+ * needs nothing but a C library's memcpy and memset. No function allocates, keeps anything or has a state of its own: all memory is the
  * caller's, so two threads may call at once on memory of their own.
  *
  * What every call takes for granted, and only the caller can see to:
@@ -12,6 +12,7 @@
  * Nothing else is asked: all bytes, all numbers and all lengths have an answer.
  *
  * Words used below
+ *   END      RASUVELK_END_OF_CHAIN; FREE is RASUVELK_FREE_SECTOR
  *   S        bytes of a sector: 512 in version 3, 4096 in version 4
  *   n        sectors of the image besides the header's: used / S - 1
  *   R        the room: whole sectors of the lent image less one, at most 16384, and 0 where there are none
@@ -55,32 +56,32 @@ extern "C" {
 /* Refusals, by number. Of the causes that hold, the first in a call's order gives the number. */
 enum rasuvelk_refusal {
     RASUVELK_ACCEPTED = 0,
-    RASUVELK_TOO_SHORT = 1,          /* under 512 bytes; of an opening: fewer used, or more used than lent */
-    RASUVELK_SIGNATURE = 2,          /* the first eight bytes are not the signature */
-    RASUVELK_BYTE_ORDER = 3,         /* the byte order mark is not 0xfffe */
-    RASUVELK_VERSION = 4,            /* the major version is neither 3 nor 4 */
-    RASUVELK_SECTOR_SHIFT = 5,       /* the sector shift is not 9 in version 3, not 12 in version 4 */
-    RASUVELK_MINI_SECTOR_SHIFT = 6,  /* the mini sector shift is not 6 */
-    RASUVELK_DIR_SECTORS = 7,        /* strict: version 3 counts directory sectors */
-    RASUVELK_CUTOFF = 8,             /* the mini stream cutoff is not 4096 */
-    RASUVELK_HEADER_LIST = 9,        /* the list of 109 is not ids and then FREE to its end */
-    RASUVELK_WHOLE_SECTORS = 10,     /* the used bytes are no whole sectors, or more than 16384 besides the header's */
-    RASUVELK_SHORT_TABLE = 11,       /* a lent table or the id list is shorter than R */
-    RASUVELK_FAT_LISTS = 12,         /* counts or lists of FAT and DIFAT sectors are not those that n asks for */
-    RASUVELK_FAT_TAIL = 13,          /* a FAT entry past the last sector is not FREE */
-    RASUVELK_UNMARKED = 14,          /* strict: a FAT or DIFAT sector is not marked as one */
-    RASUVELK_PAST_END = 15,          /* strict: an entry names a sector that is not there */
-    RASUVELK_POINTED_TWICE = 16,     /* two entries name one sector */
-    RASUVELK_INVALID_ENTRY = 17,     /* an entry is 0xfffffffb */
-    RASUVELK_FREE_POINTEE = 18,      /* an entry names a sector that is FREE */
-    RASUVELK_DISAGREES = 19,         /* state and tables are not what an opening of the image gives */
-    RASUVELK_BAD_START = 20,         /* the start is neither END nor a sector */
-    RASUVELK_BROKEN_CHAIN = 21,      /* the walk meets an entry that is neither END nor a sector */
-    RASUVELK_LOOP = 22,              /* the walk comes back to its start */
-    RASUVELK_OFFSET = 23,            /* the offset lies past the chain's end */
-    RASUVELK_NO_ROOM = 24,           /* a change would end with more than R sectors */
-    RASUVELK_MID_CHAIN = 25,         /* a change, and some entry names its start */
-    RASUVELK_PERMISSIVE_CHANGE = 26  /* a change of a state that was opened permissively */
+    RASUVELK_REFUSED_TOO_SHORT = 1,         /* under 512 bytes; of an opening: fewer used, or more used than lent */
+    RASUVELK_REFUSED_SIGNATURE = 2,         /* the first eight bytes are not the signature */
+    RASUVELK_REFUSED_BYTE_ORDER = 3,        /* the byte order mark is not 0xfffe */
+    RASUVELK_REFUSED_VERSION = 4,           /* the major version is neither 3 nor 4 */
+    RASUVELK_REFUSED_SECTOR_SHIFT = 5,      /* the sector shift is not 9 in version 3, not 12 in version 4 */
+    RASUVELK_REFUSED_MINI_SECTOR_SHIFT = 6, /* the mini sector shift is not 6 */
+    RASUVELK_REFUSED_DIR_SECTORS = 7,       /* strict: version 3 counts directory sectors */
+    RASUVELK_REFUSED_CUTOFF = 8,            /* the mini stream cutoff is not 4096 */
+    RASUVELK_REFUSED_HEADER_LIST = 9,       /* the list of 109 is not ids and then FREE to its end */
+    RASUVELK_REFUSED_WHOLE_SECTORS = 10,    /* the used bytes are no whole sectors, or more than 16384 besides the header's */
+    RASUVELK_REFUSED_SHORT_TABLE = 11,      /* a lent table or the id list is shorter than R */
+    RASUVELK_REFUSED_FAT_LISTS = 12,        /* counts or lists of FAT and DIFAT sectors are not those that n asks for */
+    RASUVELK_REFUSED_FAT_TAIL = 13,         /* a FAT entry past the last sector is not FREE */
+    RASUVELK_REFUSED_UNMARKED = 14,         /* strict: a FAT or DIFAT sector is not marked as one */
+    RASUVELK_REFUSED_PAST_END = 15,         /* strict: an entry names a sector that is not there */
+    RASUVELK_REFUSED_POINTED_TWICE = 16,    /* two entries name one sector */
+    RASUVELK_REFUSED_INVALID_ENTRY = 17,    /* an entry is 0xfffffffb */
+    RASUVELK_REFUSED_FREE_POINTEE = 18,     /* an entry names a sector that is FREE */
+    RASUVELK_REFUSED_DISAGREES = 19,        /* state and tables are not what an opening of the image gives */
+    RASUVELK_REFUSED_BAD_START = 20,        /* the start is neither END nor a sector */
+    RASUVELK_REFUSED_BROKEN_CHAIN = 21,     /* the walk meets an entry that is neither END nor a sector */
+    RASUVELK_REFUSED_LOOP = 22,             /* the walk comes back to its start */
+    RASUVELK_REFUSED_OFFSET = 23,           /* the offset lies past the chain's end */
+    RASUVELK_REFUSED_NO_ROOM = 24,          /* a change would end with more than R sectors */
+    RASUVELK_REFUSED_MID_CHAIN = 25,        /* a change, and some entry names its start */
+    RASUVELK_REFUSED_PERMISSIVE_CHANGE = 26 /* a change of a state that was opened permissively */
 };
 
 /* Kinds of an entry, as rasuvelk_kind_of gives them. */
@@ -338,7 +339,7 @@ static inline uint32_t rasuvelk_lend(rasuvelk_lent *lent, uint8_t *image, size_t
     rasuvelk_lent laid;
     size_t i;
     if (memory == NULL || memory_len < rasuvelk_memory(image_len)) {
-        return RASUVELK_SHORT_TABLE;
+        return RASUVELK_REFUSED_SHORT_TABLE;
     }
     for (i = 0; i < 5u * room; i++) {
         words[i] = 0u;

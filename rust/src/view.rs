@@ -176,7 +176,8 @@ impl fmt::Debug for View<'_> {
     fn fmt(&self, out: &mut fmt::Formatter<'_>) -> fmt::Result {
         out.debug_struct("View")
             .field("used", &self.used)
-            .field("fat", &crate::prettify(self.fat()))
+            .field("sectors", &self.sectors)
+            .field("frees", &self.frees)
             .finish_non_exhaustive()
     }
 }

@@ -29,8 +29,8 @@ fn the_c_header_has_the_same_numbers() {
             break;
         };
         let number: u32 = rest.split([',', ' ']).next().unwrap().parse().unwrap();
-        // PascalCase here, RASUVELK_SNAKE_CASE there.
-        let mut expected = String::from("RASUVELK");
+        // PascalCase here, RASUVELK_REFUSED_SNAKE_CASE there.
+        let mut expected = String::from("RASUVELK_REFUSED");
         for letter in format!("{:?}", Refusal::from_number(number)).chars() {
             if letter.is_uppercase() {
                 expected.push('_');
@@ -43,4 +43,23 @@ fn the_c_header_has_the_same_numbers() {
         numbers.push(number);
     }
     assert_eq!(numbers, (0..=26).collect::<Vec<u32>>());
+}
+
+#[test]
+fn what_lent_is_made_of_names_nothing_that_allocates() {
+    let sources = [
+        include_str!("../src/lent.rs"),
+        include_str!("../src/ffi.rs"),
+        include_str!("../src/view.rs"),
+        include_str!("../src/state.rs"),
+        include_str!("../src/header.rs"),
+    ];
+    for source in sources {
+        // Examples in the documents may.
+        let code: String = source.lines().filter(|line| !line.trim_start().starts_with("//")).collect();
+        for word in ["Vec", "vec!", "Box", "String", "format!", "collect", "to_vec", "clone()"] {
+            let found = code.split(word).count() - 1;
+            assert_eq!(found, 0, "{word} in {:?}", source.lines().next());
+        }
+    }
 }

@@ -233,3 +233,20 @@ fn states_that_no_opening_gave() {
     }
     assert!(accepted > 0);
 }
+
+#[test]
+fn words_that_hold_no_state() {
+    let words = Image::create(Version::V3).unwrap().state().to_words();
+    assert_eq!(State::from_words(words).map(|state| state.to_words()), Ok(words));
+    for place in 0..121 {
+        let mut held = words;
+        held[place] = 1 << 32;
+        // Used bytes, sectors and free ones may be any number; what they are is for the next call to judge.
+        assert_eq!(number(&State::from_words(held)), if (1..4).contains(&place) { 0 } else { 19 }, "word {place}");
+    }
+    for (place, wrong) in [(0, 2), (4, 2), (4, 5)] {
+        let mut held = words;
+        held[place] = wrong;
+        assert_eq!(number(&State::from_words(held)), 19);
+    }
+}

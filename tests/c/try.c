@@ -207,10 +207,10 @@ static void chains_of_q(void)
     CHECK(answer.ids == 2 && answer.start == 2 && LISTS(&q, q.ids, 2, 3));
     GIVES(rasuvelk_lent_chain(&q, END, &answer), 0);
     CHECK(answer.ids == 0 && answer.start == END && all(q.ids, 4 * q.room, 0));
-    REFUSED(rasuvelk_lent_chain(&q, 4, &answer), RASUVELK_BROKEN_CHAIN);
-    REFUSED(rasuvelk_lent_chain(&q, 0, &answer), RASUVELK_BROKEN_CHAIN);
-    REFUSED(rasuvelk_lent_chain(&q, 6, &answer), RASUVELK_BAD_START);
-    REFUSED(rasuvelk_lent_chain(&q, FREE, &answer), RASUVELK_BAD_START);
+    REFUSED(rasuvelk_lent_chain(&q, 4, &answer), RASUVELK_REFUSED_BROKEN_CHAIN);
+    REFUSED(rasuvelk_lent_chain(&q, 0, &answer), RASUVELK_REFUSED_BROKEN_CHAIN);
+    REFUSED(rasuvelk_lent_chain(&q, 6, &answer), RASUVELK_REFUSED_BAD_START);
+    REFUSED(rasuvelk_lent_chain(&q, FREE, &answer), RASUVELK_REFUSED_BAD_START);
 
     memset(buf, 0x55, sizeof buf);
     GIVES(rasuvelk_lent_read(&q, 1, 0, buf, sizeof buf, &answer), 0);
@@ -222,8 +222,8 @@ static void chains_of_q(void)
     GIVES(rasuvelk_lent_read(&q, 1, 1536, buf, 20, &answer), 0);
     CHECK(answer.bytes == 0 && answer.ids == 3);
     memset(buf, 0x55, sizeof buf);
-    REFUSED(rasuvelk_lent_read(&q, 1, 1537, buf, 20, &answer), RASUVELK_OFFSET);
-    REFUSED(rasuvelk_lent_read(&q, END, UINT64_MAX, buf, 20, &answer), RASUVELK_OFFSET);
+    REFUSED(rasuvelk_lent_read(&q, 1, 1537, buf, 20, &answer), RASUVELK_REFUSED_OFFSET);
+    REFUSED(rasuvelk_lent_read(&q, END, UINT64_MAX, buf, 20, &answer), RASUVELK_REFUSED_OFFSET);
     CHECK(all(buf, sizeof buf, 0x55));
 }
 
@@ -243,14 +243,14 @@ static void changes_of_q(void)
     OPENS_THE_SAME(&q);
 
     open_q();
-    REFUSED(rasuvelk_lent_write(&q, 1, 1537, buf, 1, &answer), RASUVELK_OFFSET);
-    REFUSED(rasuvelk_lent_write(&q, 2, 0, buf, 1, &answer), RASUVELK_MID_CHAIN);
-    REFUSED(rasuvelk_lent_write(&q, 2, 0, buf, 0, &answer), RASUVELK_MID_CHAIN);
-    REFUSED(rasuvelk_lent_resize(&q, 4, 0, &answer), RASUVELK_BROKEN_CHAIN);
-    REFUSED(rasuvelk_lent_resize(&q, 6, 0, &answer), RASUVELK_BAD_START);
-    REFUSED(rasuvelk_lent_resize(&q, 1, 3584, &answer), RASUVELK_NO_ROOM);
-    REFUSED(rasuvelk_lent_resize(&q, 1, UINT64_MAX, &answer), RASUVELK_NO_ROOM);
-    REFUSED(rasuvelk_lent_free(&q, 3, &answer), RASUVELK_MID_CHAIN);
+    REFUSED(rasuvelk_lent_write(&q, 1, 1537, buf, 1, &answer), RASUVELK_REFUSED_OFFSET);
+    REFUSED(rasuvelk_lent_write(&q, 2, 0, buf, 1, &answer), RASUVELK_REFUSED_MID_CHAIN);
+    REFUSED(rasuvelk_lent_write(&q, 2, 0, buf, 0, &answer), RASUVELK_REFUSED_MID_CHAIN);
+    REFUSED(rasuvelk_lent_resize(&q, 4, 0, &answer), RASUVELK_REFUSED_BROKEN_CHAIN);
+    REFUSED(rasuvelk_lent_resize(&q, 6, 0, &answer), RASUVELK_REFUSED_BAD_START);
+    REFUSED(rasuvelk_lent_resize(&q, 1, 3584, &answer), RASUVELK_REFUSED_NO_ROOM);
+    REFUSED(rasuvelk_lent_resize(&q, 1, UINT64_MAX, &answer), RASUVELK_REFUSED_NO_ROOM);
+    REFUSED(rasuvelk_lent_free(&q, 3, &answer), RASUVELK_REFUSED_MID_CHAIN);
     {
         copy before = kept(), after;
         GIVES(rasuvelk_lent_write(&q, 1, 1536, buf, 0, &answer), 0);
@@ -278,6 +278,39 @@ static void changes_of_q(void)
     OPENS_THE_SAME(&q);
 }
 
+/* 11 at each of the five calls, with one of the tables (the last is the list of ids) an element short. */
+static void short_for_calls(size_t which)
+{
+    copy before = kept(), after;
+    rasuvelk_answer answer;
+    uint8_t buf[10];
+    size_t lens[6], call;
+    for (call = 0; call < 6; call++) {
+        lens[call] = Q_ROOM - (call == which);
+    }
+#define LENT_SHORT                                                                                                 \
+    &q.state, q.image, q.image_len, q.fat, lens[0], q.fats, lens[1], q.difats, lens[2], q.frees, lens[3], q.marks, \
+        lens[4], q.ids, lens[5]
+    for (call = 0; call < 5; call++) {
+        uint32_t number = 0;
+        memset(q.ids, 0x66, 4 * q.room);
+        memset(&answer, 0x33, sizeof answer);
+        memset(buf, 0x55, sizeof buf);
+        switch (call) {
+        case 0: number = rasuvelk_open_chain(LENT_SHORT, 1, &answer); break;
+        case 1: number = rasuvelk_read_chain(LENT_SHORT, 1, 0, buf, sizeof buf, &answer); break;
+        case 2: number = rasuvelk_write_chain(LENT_SHORT, 1, 0, buf, sizeof buf, &answer); break;
+        case 3: number = rasuvelk_resize_chain(LENT_SHORT, 1, 0, &answer); break;
+        default: number = rasuvelk_free_chain(LENT_SHORT, 1, &answer); break;
+        }
+        GIVES(number, RASUVELK_REFUSED_SHORT_TABLE);
+        after = kept();
+        CHECK(all(q.ids, 4 * q.room, 0x66) && all(&answer, sizeof answer, 0) && all(buf, sizeof buf, 0x55));
+        CHECK(memcmp(&before, &after, sizeof after) == 0);
+    }
+#undef LENT_SHORT
+}
+
 /* 11 and 19: tables of another length, a state and tables that no opening gave. */
 static void lent_wrongly(void)
 {
@@ -285,7 +318,7 @@ static void lent_wrongly(void)
     rasuvelk_state state;
     uint32_t tables[5][Q_ROOM];
     uint8_t marks[Q_ROOM];
-    size_t lens[6], which;
+    size_t lens[5], which;
     make_q();
     for (which = 0; which < 5; which++) {
         size_t i;
@@ -296,40 +329,60 @@ static void lent_wrongly(void)
         memset(marks, 0x66, sizeof marks);
         GIVES(rasuvelk_open(q_bytes, Q_LENT, Q_USED, 1, tables[0], lens[0], tables[1], lens[1], tables[2], lens[2],
                             tables[3], lens[3], marks, lens[4], &state),
-              RASUVELK_SHORT_TABLE);
+              RASUVELK_REFUSED_SHORT_TABLE);
         CHECK(all(tables, sizeof tables, 0x66) && all(marks, sizeof marks, 0x66));
         CHECK(state.mode == 1 && state.version == 3 && state.used == 0 && all(state.initial_difat_entries, 872, 0));
     }
     open_q();
     for (which = 0; which < 6; which++) {
-        size_t i;
-        for (i = 0; i < 6; i++) {
-            lens[i] = Q_ROOM - (i == which);
-        }
-        memset(q.ids, 0x66, 4 * q.room);
-        GIVES(rasuvelk_open_chain(&q.state, q.image, q.image_len, q.fat, lens[0], q.fats, lens[1], q.difats, lens[2],
-                                  q.frees, lens[3], q.marks, lens[4], q.ids, lens[5], 1, &answer),
-              RASUVELK_SHORT_TABLE);
-        CHECK(all(q.ids, 4 * q.room, 0x66) && all(&answer, sizeof answer, 0));
+        short_for_calls(which);
     }
     q.state.num_sectors++;
-    REFUSED(rasuvelk_lent_chain(&q, 1, &answer), RASUVELK_DISAGREES);
+    REFUSED(rasuvelk_lent_chain(&q, 1, &answer), RASUVELK_REFUSED_DISAGREES);
     open_q();
     q.marks[1] = 1;
-    REFUSED(rasuvelk_lent_free(&q, 1, &answer), RASUVELK_DISAGREES);
+    REFUSED(rasuvelk_lent_free(&q, 1, &answer), RASUVELK_REFUSED_DISAGREES);
     open_q();
     q.image[0]++;
-    REFUSED(rasuvelk_lent_write(&q, 1, 0, marks, sizeof marks, &answer), RASUVELK_DISAGREES);
+    REFUSED(rasuvelk_lent_write(&q, 1, 0, marks, sizeof marks, &answer), RASUVELK_REFUSED_DISAGREES);
     open_q();
     memset(&q.state, 0xff, sizeof q.state);
-    REFUSED(rasuvelk_lent_resize(&q, 1, 0, &answer), RASUVELK_DISAGREES);
+    REFUSED(rasuvelk_lent_resize(&q, 1, 0, &answer), RASUVELK_REFUSED_DISAGREES);
     open_q();
     q.frees[0] = 5;
     q.frees[1] = 4;
     GIVES(rasuvelk_lent_resize(&q, 1, 2048, &answer), 0);
     CHECK(LISTS(&q, q.ids, 1, 2, 3, 4));
-    CHECK(rasuvelk_lend(&q, q_bytes, sizeof q_bytes, q_memory, 21 * Q_ROOM - 1) == RASUVELK_SHORT_TABLE);
-    CHECK(rasuvelk_lend(&q, q_bytes, sizeof q_bytes, NULL, 21 * Q_ROOM) == RASUVELK_SHORT_TABLE);
+    CHECK(rasuvelk_lend(&q, q_bytes, sizeof q_bytes, q_memory, 21 * Q_ROOM - 1) == RASUVELK_REFUSED_SHORT_TABLE);
+    CHECK(rasuvelk_lend(&q, q_bytes, sizeof q_bytes, NULL, 21 * Q_ROOM) == RASUVELK_REFUSED_SHORT_TABLE);
+}
+
+/* Version 4: a header alone, and a chain that is begun, with room for the FAT, two sectors and no more. */
+static void version_4(void)
+{
+    enum { LONG = 4096 };
+    static uint8_t bytes[4 * LONG], buf[LONG + 1];
+    static uint32_t memory[21 * 31 / 4 + 1];
+    rasuvelk_header header;
+    rasuvelk_lent lent;
+    rasuvelk_answer answer;
+    memset(&header, 0xff, sizeof header);
+    header.version = 4;
+    header.num_dir_sectors = header.num_fat_sectors = header.num_minifat_sectors = header.num_difat_sectors = 0;
+    header.first_dir_sector = header.first_minifat_sector = header.first_difat_sector = END;
+    GIVES(rasuvelk_write_header(&header, bytes, sizeof bytes), 0);
+    GIVES(rasuvelk_lend(&lent, bytes, sizeof bytes, memory, sizeof memory), 0);
+    GIVES(rasuvelk_lent_open(&lent, 512, RASUVELK_STRICT), RASUVELK_REFUSED_WHOLE_SECTORS);
+    GIVES(rasuvelk_lent_open(&lent, LONG, RASUVELK_STRICT), 0);
+    CHECK(lent.state.version == 4 && lent.state.num_sectors == 0);
+    memset(buf, 6, sizeof buf);
+    GIVES(rasuvelk_lent_resize(&lent, END, 2 * LONG + 1, &answer), RASUVELK_REFUSED_NO_ROOM);
+    GIVES(rasuvelk_lent_write(&lent, END, 0, buf, sizeof buf, &answer), 0);
+    CHECK(answer.ids == 2 && answer.start == 1 && answer.bytes == LONG + 1 && LISTS(&lent, lent.ids, 1, 2));
+    CHECK(lent.state.used == sizeof bytes && lent.state.num_fat_sectors == 1 && get32(bytes + 44) == 1);
+    CHECK(get32(bytes + 76) == 0 && lent.fat[0] == RASUVELK_FAT_SECTOR && get32(bytes + LONG) == RASUVELK_FAT_SECTOR);
+    CHECK(all(bytes + 2 * LONG, LONG + 1, 6) && all(bytes + 3 * LONG + 1, LONG - 1, 0));
+    OPENS_THE_SAME(&lent);
 }
 
 /* Modes, and a loop. */
@@ -339,33 +392,33 @@ static void modes(void)
     open_q();
     put32(q_bytes + S + 12, RASUVELK_MAX_REGULAR_SECTOR);
     memset(q.fat, 0x66, 4 * q.room);
-    GIVES(rasuvelk_lent_open(&q, Q_USED, RASUVELK_STRICT), RASUVELK_PAST_END);
+    GIVES(rasuvelk_lent_open(&q, Q_USED, RASUVELK_STRICT), RASUVELK_REFUSED_PAST_END);
     CHECK(all(q.fat, 16 * q.room, 0) && all(q.marks, q.room, 0));
     GIVES(rasuvelk_lent_open(&q, Q_USED, RASUVELK_PERMISSIVE), 0);
     CHECK(q.state.mode == 0 && q.fat[3] == END && get32(q_bytes + S + 12) == RASUVELK_MAX_REGULAR_SECTOR);
     GIVES(rasuvelk_lent_chain(&q, 1, &answer), 0);
     CHECK(answer.ids == 3);
-    REFUSED(rasuvelk_lent_free(&q, 1, &answer), RASUVELK_PERMISSIVE_CHANGE);
-    REFUSED(rasuvelk_lent_free(&q, 6, &answer), RASUVELK_PERMISSIVE_CHANGE);
+    REFUSED(rasuvelk_lent_free(&q, 1, &answer), RASUVELK_REFUSED_PERMISSIVE_CHANGE);
+    REFUSED(rasuvelk_lent_free(&q, 6, &answer), RASUVELK_REFUSED_PERMISSIVE_CHANGE);
     put32(q_bytes + S + 12, RASUVELK_INVALID_SECTOR);
-    GIVES(rasuvelk_lent_open(&q, Q_USED, RASUVELK_PERMISSIVE), RASUVELK_INVALID_ENTRY);
+    GIVES(rasuvelk_lent_open(&q, Q_USED, RASUVELK_PERMISSIVE), RASUVELK_REFUSED_INVALID_ENTRY);
     put32(q_bytes + S + 12, 4);
-    GIVES(rasuvelk_lent_open(&q, Q_USED, RASUVELK_STRICT), RASUVELK_FREE_POINTEE);
+    GIVES(rasuvelk_lent_open(&q, Q_USED, RASUVELK_STRICT), RASUVELK_REFUSED_FREE_POINTEE);
     put32(q_bytes + S + 12, 2);
-    GIVES(rasuvelk_lent_open(&q, Q_USED, RASUVELK_STRICT), RASUVELK_POINTED_TWICE);
+    GIVES(rasuvelk_lent_open(&q, Q_USED, RASUVELK_STRICT), RASUVELK_REFUSED_POINTED_TWICE);
     put32(q_bytes + S + 12, 1);
     GIVES(rasuvelk_lent_open(&q, Q_USED, RASUVELK_STRICT), 0);
-    REFUSED(rasuvelk_lent_chain(&q, 2, &answer), RASUVELK_LOOP);
+    REFUSED(rasuvelk_lent_chain(&q, 2, &answer), RASUVELK_REFUSED_LOOP);
     put32(q_bytes + S, END);
-    GIVES(rasuvelk_lent_open(&q, Q_USED, RASUVELK_STRICT), RASUVELK_UNMARKED);
+    GIVES(rasuvelk_lent_open(&q, Q_USED, RASUVELK_STRICT), RASUVELK_REFUSED_UNMARKED);
     open_q();
     put32(q_bytes + S + 24, END);
-    GIVES(rasuvelk_lent_open(&q, Q_USED, RASUVELK_PERMISSIVE), RASUVELK_FAT_TAIL);
+    GIVES(rasuvelk_lent_open(&q, Q_USED, RASUVELK_PERMISSIVE), RASUVELK_REFUSED_FAT_TAIL);
     GIVES(rasuvelk_lent_open(&q, Q_LENT, RASUVELK_STRICT), 0);
-    GIVES(rasuvelk_lent_open(&q, Q_LENT + 1, RASUVELK_STRICT), RASUVELK_TOO_SHORT);
-    GIVES(rasuvelk_lent_open(&q, Q_USED - 1, RASUVELK_STRICT), RASUVELK_WHOLE_SECTORS);
+    GIVES(rasuvelk_lent_open(&q, Q_LENT + 1, RASUVELK_STRICT), RASUVELK_REFUSED_TOO_SHORT);
+    GIVES(rasuvelk_lent_open(&q, Q_USED - 1, RASUVELK_STRICT), RASUVELK_REFUSED_WHOLE_SECTORS);
     put32(q_bytes + 44, 2);
-    GIVES(rasuvelk_lent_open(&q, Q_LENT, RASUVELK_STRICT), RASUVELK_FAT_LISTS);
+    GIVES(rasuvelk_lent_open(&q, Q_LENT, RASUVELK_STRICT), RASUVELK_REFUSED_FAT_LISTS);
 }
 
 /* Refusals of the header, each at its field; and the three small functions. */
@@ -396,15 +449,15 @@ static void headers_and_items(void)
     GIVES(rasuvelk_read_header(q_bytes, 512, 7, &header), 0);
     CHECK(header.version == 3 && header.num_fat_sectors == 1 && header.first_dir_sector == 1);
     memset(bytes, 0x44, sizeof bytes);
-    GIVES(rasuvelk_write_header(&header, bytes, 511), RASUVELK_TOO_SHORT);
+    GIVES(rasuvelk_write_header(&header, bytes, 511), RASUVELK_REFUSED_TOO_SHORT);
     header.num_dir_sectors = 1;
-    GIVES(rasuvelk_write_header(&header, bytes, 512), RASUVELK_DIR_SECTORS);
+    GIVES(rasuvelk_write_header(&header, bytes, 512), RASUVELK_REFUSED_DIR_SECTORS);
     header.num_dir_sectors = 0;
     header.first_difat_sector = FREE;
-    GIVES(rasuvelk_write_header(&header, bytes, 512), RASUVELK_HEADER_LIST);
+    GIVES(rasuvelk_write_header(&header, bytes, 512), RASUVELK_REFUSED_HEADER_LIST);
     header.first_difat_sector = END;
     header.version = 5;
-    GIVES(rasuvelk_write_header(&header, bytes, 1), RASUVELK_VERSION);
+    GIVES(rasuvelk_write_header(&header, bytes, 1), RASUVELK_REFUSED_VERSION);
     header.version = 3;
     CHECK(all(bytes, sizeof bytes, 0x44));
     GIVES(rasuvelk_write_header(&header, bytes, 512), 0);
@@ -481,7 +534,7 @@ static void real_file(const char *path)
     GIVES(rasuvelk_lent_read(&lent, 9, 0, now, sizeof now, &answer), 0);
     CHECK(memcmp(now, directory, 512) == 0);
 
-    GIVES(rasuvelk_lent_resize(&lent, 0, 512 * 12, &answer), RASUVELK_NO_ROOM);
+    GIVES(rasuvelk_lent_resize(&lent, 0, 512 * 12, &answer), RASUVELK_REFUSED_NO_ROOM);
     GIVES(rasuvelk_lent_resize(&lent, 0, 4096, &answer), 0);
     CHECK(answer.ids == 8 && LISTS(&lent, lent.frees, 10));
     OPENS_THE_SAME(&lent);
@@ -533,6 +586,7 @@ int main(int argc, char **argv)
     chains_of_q();
     changes_of_q();
     lent_wrongly();
+    version_4();
     modes();
     headers_and_items();
     real_file(argv[1]);
