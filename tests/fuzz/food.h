@@ -87,12 +87,14 @@ static size_t some_sectors(uint32_t version)
     }
 }
 
-/* Makes an image that opens strictly, in `image`; gives its bytes. */
-static size_t make_image(uint8_t *image)
+/*
+ * Makes an image of n sectors that opens strictly, in `image`; gives its bytes. In a full one no sector is FREE, so that
+ * what grows has to add some.
+ */
+static size_t make_image(uint8_t *image, uint32_t version, size_t n, int full)
 {
     static uint32_t ids[MOST], fat[MOST + 1024];
-    uint32_t version = once_in(4) ? 4 : 3;
-    size_t S = sector_len(version), E = S / 4, n = some_sectors(version), k = (n + E - 1) / E, i, at;
+    size_t S = sector_len(version), E = S / 4, k = (n + E - 1) / E, i, at;
     size_t d = k <= LISTED ? 0 : (k - LISTED + E - 2) / (E - 1);
     rasuvelk_header h;
     for (i = 0; i < n; i++) {
@@ -134,7 +136,7 @@ static size_t make_image(uint8_t *image)
     }
     for (at = k + d; at < n;) {
         size_t left = n - at, run = 1 + below(once_in(3) ? left : (left < 6 ? left : 6));
-        int is_free = once_in(4);
+        int is_free = !full && once_in(4);
         for (i = 0; i < run; i++, at++) {
             fat[ids[at]] = is_free ? FREE : i + 1 < run ? ids[at + 1] : once_in(40) ? RASUVELK_DIFAT_SECTOR : END;
         }
