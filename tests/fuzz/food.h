@@ -6,7 +6,7 @@
 
 #include "judge.h"
 
-/* ------------------------------------------------------------------------------------------------------ numbers at random */
+/* ---------------------------------------------------------------------------------------------------- numbers at random */
 
 static uint64_t random_word;
 
@@ -55,7 +55,7 @@ static uint64_t bad_long(uint64_t near)
     }
 }
 
-/* ------------------------------------------------------------------------------------------------------------- made images */
+/* ---------------------------------------------------------------------------------------------------------- made images */
 
 static void shuffle(uint32_t *list, size_t count)
 {
@@ -87,12 +87,14 @@ static size_t some_sectors(uint32_t version)
     }
 }
 
-/* Makes an image that opens strictly, in `image`; gives its bytes. */
-static size_t make_image(uint8_t *image)
+/*
+ * Makes an image of n sectors that opens strictly, in `image`; gives its bytes. In a full one no sector is FREE, so that
+ * what grows has to add some.
+ */
+static size_t make_image(uint8_t *image, uint32_t version, size_t n, int full)
 {
     static uint32_t ids[MOST], fat[MOST + 1024];
-    uint32_t version = once_in(4) ? 4 : 3;
-    size_t S = sector_len(version), E = S / 4, n = some_sectors(version), k = (n + E - 1) / E, i, at;
+    size_t S = sector_len(version), E = S / 4, k = (n + E - 1) / E, i, at;
     size_t d = k <= LISTED ? 0 : (k - LISTED + E - 2) / (E - 1);
     rasuvelk_header h;
     for (i = 0; i < n; i++) {
@@ -134,7 +136,7 @@ static size_t make_image(uint8_t *image)
     }
     for (at = k + d; at < n;) {
         size_t left = n - at, run = 1 + below(once_in(3) ? left : (left < 6 ? left : 6));
-        int is_free = once_in(4);
+        int is_free = !full && once_in(4);
         for (i = 0; i < run; i++, at++) {
             fat[ids[at]] = is_free ? FREE : i + 1 < run ? ids[at + 1] : once_in(40) ? RASUVELK_DIFAT_SECTOR : END;
         }
@@ -148,7 +150,7 @@ static size_t make_image(uint8_t *image)
     return (n + 1) * S;
 }
 
-/* --------------------------------------------------------------------------------------------------------------- mutations */
+/* ------------------------------------------------------------------------------------------------------------ mutations */
 
 /* Where entry i of the FAT stands, as far as the header's list leads there; NULL where it does not. */
 static uint8_t *entry_at(uint8_t *image, size_t used, size_t S, size_t i)

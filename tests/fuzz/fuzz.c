@@ -1,14 +1,14 @@
 /*
  * Hostile input over the C boundary: fuzz COUNT SEED SLIP FILE..
  *
- * COUNT is a number of cases, a number of seconds with an `s` behind it, or one case by its number with an `=` before it.
+ * COUNT is a number of cases, a number of seconds with an `s` behind it, or one case by its number with an `=` before.
  * Case i of a seed is the same at every run with the same files. A case takes a real file or makes an image, changes some of
  * its numbers, lends memory of some length that is full of rubbish, opens, and calls: every function that the archive has,
  * with starts, offsets and lengths of all kinds, on the state and tables that the opening gave, or on changed ones. Each
- * answer, and what every lent buffer holds then, is compared with judge.h, down to the last byte. lend.h has the memory.
+ * answer, and what every lent buffer holds then, is compared with judge.h, to the last byte. lend.h has the memory.
  *
- * SLIP is 0. Any other is a mistake that this program makes itself after a call, to see that it is noticed: see slip_open and
- * slip_call. With `slips` for COUNT it says how many there are.
+ * SLIP is 0. Any other is a mistake that this program makes itself after a call, to see that it is noticed: see slip_open
+ * and slip_call. With `slips` for COUNT it says how many there are.
  */
 #include "lend.h"
 
@@ -21,6 +21,7 @@
 static uint64_t seed, cases, calls;
 static unsigned slip;
 static uint64_t met_open[32], met_call[5][32];
+static uint64_t changes, with_difat, fat_grown, difat_grown; /* accepted changes, and what they met and made */
 static uint64_t digest = 0xcbf29ce484222325u;
 
 static void where(void)
@@ -57,7 +58,7 @@ static void noted(uint64_t number)
     calls++;
 }
 
-/* ------------------------------------------------------------------------------------------------------------------ lent */
+/* -------------------------------------------------------------------------------------------------------------- lent */
 
 enum { IMAGE, FAT, FATS, DIFATS, FREES, MARKS, IDS, STATE, ANSWER, BUF, HEADER, ITEM, TEXT, LIST, ZONES };
 
@@ -110,7 +111,7 @@ static lent all_lent(void)
     return l;
 }
 
-/* ----------------------------------------------------------------------------------------------------------------- slips */
+/* ------------------------------------------------------------------------------------------------------------- slips */
 
 enum {
     NO_SLIP,
@@ -206,7 +207,7 @@ static void slip_call(uint32_t number, const call *c, lent *l, uint8_t *buf, ras
     }
 }
 
-/* ---------------------------------------------------------------------------------------------------------------- opening */
+/* ----------------------------------------------------------------------------------------------------------- opening */
 
 static opened judged_open;
 
@@ -355,10 +356,13 @@ static void try_items(void)
     noted(kind);
 }
 
-/* ----------------------------------------------------------------------------------------------------------------- chains */
+/* ------------------------------------------------------------------------------------------------------------ chains */
 
 static judged must_call;
 static opened fresh;
+
+/* Whether a case is about an image that is full, with room behind it, so that the next sectors need a FAT sector. */
+static int at_an_edge;
 
 /* A byte of a chain before the call. */
 static uint8_t old_byte(const judged *j, uint64_t at)
@@ -436,6 +440,10 @@ static void check_accepted(const lent *l, const judged *j, const call *c, const 
               memcmp(ids, j->ids, 4 * count) == 0,
           "the walk after a change");
     check_image(l, j, c);
+    changes++;
+    with_difat += fresh.d > 0;
+    fat_grown += fresh.k > judged_open.k;
+    difat_grown += fresh.d > judged_open.d;
 }
 
 /* One call on a chain, compared. `l` may have shorter lengths than what is lent. */
@@ -510,8 +518,10 @@ static uint32_t try_call(lent l, const call *c)
         CHECK(number == 11 ? zone_same(&zones[IDS]) : zeros_from(l.ids, 0, l.ids_len), "the ids after %u", number);
     }
     /* what is lent behind the length that the call was told stays too */
-    CHECK(memcmp(l.ids + l.ids_len, zones[IDS].before + 4 * l.ids_len, zones[IDS].len - 4 * l.ids_len) == 0, "behind the ids");
-    CHECK(memcmp(l.fat + l.fat_len, zones[FAT].before + 4 * l.fat_len, zones[FAT].len - 4 * l.fat_len) == 0, "behind the fat");
+    CHECK(memcmp(l.ids + l.ids_len, zones[IDS].before + 4 * l.ids_len, zones[IDS].len - 4 * l.ids_len) == 0,
+          "behind the ids");
+    CHECK(memcmp(l.fat + l.fat_len, zones[FAT].before + 4 * l.fat_len, zones[FAT].len - 4 * l.fat_len) == 0,
+          "behind the fat");
     CHECK(memcmp(l.image + l.image_len, zones[IMAGE].before + l.image_len, zones[IMAGE].len - l.image_len) == 0,
           "behind the image");
     check_edges("a call on a chain");
@@ -524,13 +534,15 @@ static uint32_t try_call(lent l, const call *c)
 /* A start: a chain's first sector, one inside, END, or none. */
 static uint32_t some_start(const lent *l)
 {
-    size_t n = (size_t)l->state->num_sectors, i, tries;
+    size_t n = (size_t)l->state->num_sectors, from, i;
     if (once_in(8) || n == 0 || n > l->fat_len || n > l->marks_len) return once_in(3) ? END : bad_number(n);
-    for (tries = 0; tries < 8; tries++) {
-        i = below(n);
-        if (!l->marks[i] && (l->fat[i] <= RASUVELK_MAX_REGULAR_SECTOR || l->fat[i] == END)) return (uint32_t)i;
+    from = below(n);
+    if (once_in(8)) return (uint32_t)from;
+    for (i = 0; i < n; i++) {
+        size_t id = (from + i) % n;
+        if (!l->marks[id] && (l->fat[id] <= RASUVELK_MAX_REGULAR_SECTOR || l->fat[id] == END)) return (uint32_t)id;
     }
-    return (uint32_t)below(n);
+    return (uint32_t)from;
 }
 
 static call some_call(const lent *l)
@@ -553,6 +565,11 @@ static call some_call(const lent *l)
     default: c.offset = length == 0 ? 0 : next() % length; break;
     }
     c.buf_len = once_in(6) ? 0 : once_in(20) ? below(200 * 512) : below(3 * S);
+    if (at_an_edge && once_in(2)) {
+        c.what = WRITE_CHAIN;
+        c.offset = length;
+        c.buf_len = 1 + below(4 * S);
+    }
     if (c.what != READ_CHAIN && c.what != WRITE_CHAIN) c.buf_len = 0;
     if (c.what == OPEN_CHAIN || c.what == FREE_CHAIN) c.offset = 0;
     return c;
@@ -640,7 +657,7 @@ static void try_calls(size_t count)
     }
 }
 
-/* ------------------------------------------------------------------------------------------------------------------ cases */
+/* ------------------------------------------------------------------------------------------------------------- cases */
 
 enum { FILES = 64 };
 
@@ -683,16 +700,25 @@ static size_t some_image(void)
     static uint8_t *made;
     const uint8_t *bytes;
     size_t used, spare;
+    uint32_t version = once_in(4) ? 4 : 3;
     if (made == NULL && (made = malloc(IMAGE_ROOM)) == NULL) exit(2);
-    if (once_in(2)) {
+    at_an_edge = once_in(60);
+    if (at_an_edge) {
+        /* once in a while so many that it needs a DIFAT sector too */
+        size_t E = version == 3 ? 128 : 1024, n = version == 4 ? E : once_in(12) ? LISTED * E : E * (1 + below(3));
+        used = make_image(made, version, n - below(3), 1);
+        bytes = made;
+    } else if (once_in(2)) {
         size_t which = once_in(150) ? below(file_count) : below(small_files);
         bytes = files[which].bytes;
         used = files[which].len;
     } else {
-        used = make_image(made);
+        size_t n = some_sectors(version);
+        used = make_image(made, version, n, once_in(2));
         bytes = made;
     }
     spare = once_in(3) ? 0 : once_in(3) ? below(600) : once_in(6) ? below(150 * 512) : 512 * below(8);
+    if (at_an_edge) spare = sector_len(version) * (4 + below(4));
     if (used + spare > IMAGE_ROOM) spare = IMAGE_ROOM - used;
     lend(IMAGE, used + spare);
     memcpy(zones[IMAGE].at, bytes, used);
@@ -722,13 +748,15 @@ static void one_case(uint64_t number)
     used = some_image();
     some_tables();
     mode = modes[below(sizeof modes / sizeof modes[0])];
-    if (!once_in(3)) {
+    if (!at_an_edge && !once_in(3)) {
         do {
             mutate(zones[IMAGE].at, used);
         } while (once_in(3));
     }
     if (once_in(8)) {
-        used = once_in(2) ? used - 512 + 256 * below(5) : once_in(2) ? below(zones[IMAGE].len + 600) : (size_t)bad_long(used);
+        used = once_in(2)   ? used - 512 + 256 * below(5)
+               : once_in(2) ? below(zones[IMAGE].len + 600)
+                            : (size_t)bad_long(used);
     }
     len = once_in(3) ? below(513) : zones[IMAGE].len;
     try_header(len < zones[IMAGE].len ? len : zones[IMAGE].len, mode);
@@ -749,11 +777,14 @@ static void check_met(void)
     for (number = 0; number <= 18; number++) {
         CHECK(met_open[number] > 0, "no opening was refused by %zu", number);
     }
+    CHECK(fat_grown > 0, "no change made a FAT sector");
+    CHECK(difat_grown > 0 || cases < 100000, "no change made a DIFAT sector");
     for (what = OPEN_CHAIN; what <= FREE_CHAIN; what++) {
         for (number = 0; number <= 26; number++) {
             int can = number == 0 || number == 11 || (number >= 19 && number <= 22) ||
                       (number == 23 && (what == READ_CHAIN || what == WRITE_CHAIN)) ||
-                      (number == 24 && (what == WRITE_CHAIN || what == RESIZE_CHAIN)) || (number >= 25 && what >= WRITE_CHAIN);
+                      (number == 24 && (what == WRITE_CHAIN || what == RESIZE_CHAIN)) ||
+                      (number >= 25 && what >= WRITE_CHAIN);
             CHECK((met_call[what][number] > 0) == can, "call %zu was answered by %zu %llu times", what, number,
                   (unsigned long long)met_call[what][number]);
         }
@@ -828,7 +859,9 @@ int main(int argc, char **argv)
             if (met_call[what][i] > 0) printf(" %zu: %llu", i, (unsigned long long)met_call[what][i]);
         }
     }
-    printf("\n");
+    printf("\n%llu changes accepted; %llu of them made a FAT sector, %llu a DIFAT sector; %llu left an image with one\n",
+           (unsigned long long)changes, (unsigned long long)fat_grown, (unsigned long long)difat_grown,
+           (unsigned long long)with_difat);
     if (cases - first >= 20000) check_met();
     printf("seed %llu, %zu files: %llu cases, %llu answers in %.1f s, each as documented; digest %016llx\n",
            (unsigned long long)seed, file_count, (unsigned long long)(cases - first), (unsigned long long)calls, taken,

@@ -1,5 +1,6 @@
 /*
- * What include/rasuvelk.h and docs/NUMBERS.md say that a call must answer and leave, written from these two alone.
+ * What include/rasuvelk.h, docs/NUMBERS.md and the specification say that a call must answer and leave. It is written from
+ * these, and not from the code.
  */
 #ifndef JUDGE_H
 #define JUDGE_H

@@ -27,6 +27,8 @@ CUTOFF = 4096
 MINI = 64
 # so many sectors have FAT sectors that the header's list has room for, in version 3
 HEADER_SECTORS = 109 * 128
+# what is done to streams, each at least once
+KINDS = ["in place", "grown", "cut and grown", "grown past a FAT sector", "grown past the header's list", "small, in place"]
 
 
 class Wrong(Exception):
@@ -80,7 +82,8 @@ class Check:
         directory, root, entries = readers.layout(file)
         header = file.read_bytes()[:76]
         sector = 1 << struct.unpack_from("<H", header, 30)[0]
-        long = sorted((path for path in streams if len(streams[path]) >= CUTOFF), key=lambda path: (len(streams[path]), path))
+        long = [path for path in streams if len(streams[path]) >= CUTOFF]
+        long.sort(key=lambda path: (len(streams[path]), path))
         if not long:
             raise Wrong(f"{file.name} has no stream of {CUTOFF} bytes")
         for path in dict.fromkeys([long[0], long[len(long) // 2], long[-1]]):
@@ -129,7 +132,8 @@ class Check:
             self.must(file, "grown past a FAT sector", [write(size, past), length(size + len(past))], changed(old + past))
         if sector == 512 and sectors < 1000 and "grown past the header's list" not in sum(self.edits.values(), []):
             past = noise("list", (HEADER_SECTORS - sectors + 200) * sector)
-            self.must(file, "grown past the header's list", [write(size, past), length(size + len(past))], changed(old + past))
+            steps = [write(size, past), length(size + len(past))]
+            self.must(file, "grown past the header's list", steps, changed(old + past))
 
     def small(self, file, streams, path, root, entries):
         """A stream of the mini stream, overwritten in place in its first mini sector."""
@@ -165,6 +169,8 @@ class Check:
         self.said.append(f"{file.name}: {wrong} entries past its {sectors} sectors are not FREE; with these FREE: {told}")
         if not told.startswith("opened"):
             raise Wrong(f"{mended.name}: {told}")
+        if readers.contents(mended) != readers.contents(file):
+            raise Wrong(f"{mended.name} has other streams than {file.name}")
         return mended
 
     def read(self, files):
@@ -179,7 +185,8 @@ class Check:
                 if same:
                     able.append(file)
                 else:
-                    self.said.append(f"{file.name}: {reader.name} does not read the original as olefile does; not asked further")
+                    name = reader.name
+                    self.said.append(f"{file.name}: {name} does not read the original as olefile does; not asked further")
             for edited, streams in self.expected.items():
                 if self.original[edited] not in able:
                     continue
@@ -229,7 +236,8 @@ def main():
             opened += 1
         check.file(file)
         files.append(file)
-        print(f"{one.file.name}, by {one.program}, {one.file.stat().st_size:,} bytes: {told}; edits {len(check.edits[file])}")
+        size, edits = one.file.stat().st_size, len(check.edits[file])
+        print(f"{one.file.name}, by {one.program}, {size:,} bytes: {told}; edits {edits}")
     confirmed = check.read(files)
     for line in check.said:
         print(f"  {line}")
@@ -241,7 +249,7 @@ def main():
     # every edit is confirmed by both readers that must be there
     if any(len(confirmed.get(name, [])) != len(kinds) for name in ("olefile", "gsf")):
         raise Wrong("some edit was not confirmed by olefile and by gsf")
-    for kind in ("in place", "grown", "cut and grown", "grown past a FAT sector", "grown past the header's list", "small, in place"):
+    for kind in KINDS:
         if kind not in kinds:
             raise Wrong(f"no file was edited so: {kind}")
     print(f"{len(made)} files of {len(makers.MAKERS) - len(missing)} programs, {opened} opened strictly, {len(kinds)} edits")

@@ -131,9 +131,11 @@ def by_perl(folder):
     """A small file, and one with a DIFAT sector."""
     if subprocess.run(["perl", "-MOLE::Storage_Lite", "-e", "1"], capture_output=True).returncode:
         return []
-    text = subprocess.run(["perl", "-MOLE::Storage_Lite", "-e", "print $OLE::Storage_Lite::VERSION"], capture_output=True, text=True)
+    words = ["perl", "-MOLE::Storage_Lite", "-e", "print $OLE::Storage_Lite::VERSION"]
+    text = subprocess.run(words, capture_output=True, text=True)
     made = []
-    for file, lengths in (("lite.ole", {"one": 5000, "two": 100, "three": 70_000}), ("lite-difat.ole", {"one": 5000, "two": 100, "three": 7_300_000})):
+    for file, longest in (("lite.ole", 70_000), ("lite-difat.ole", 7_300_000)):
+        lengths = {"one": 5000, "two": 100, "three": longest}
         words, known = [], {}
         for stream, length in lengths.items():
             known[(stream,)] = noise(stream, length)

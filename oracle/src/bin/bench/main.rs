@@ -57,13 +57,15 @@ fn machine(before: &str) -> String {
     let rustc = rustc.map_or(String::from("rustc"), |said| String::from_utf8_lossy(&said.stdout).trim().to_string());
     let rustc: Vec<&str> = rustc.split(' ').take(2).collect();
     format!(
-        "One run on {} ({processors} processors, {} {}), {}, release build. The load\n\
-         was {before} before the run and {} after it; this run alone is a load of 1. {} rounds each, after {} that are not counted.",
+        "One run on {} ({processors} processors, {} {}), {}, release\n\
+         build. The load was {before} before the run and {} after it; this run alone is a load of 1. There were {} passes of {}\n\
+         rounds each, after {} in each that are not counted.",
         model.unwrap_or("a processor without a name"),
         std::env::consts::OS,
         std::env::consts::ARCH,
         rustc.join(" "),
         load(),
+        timed::PASSES,
         timed::ROUNDS,
         timed::FIRST,
     )
@@ -71,7 +73,7 @@ fn machine(before: &str) -> String {
 
 #[cfg(all(oracle, not(feature = "model")))]
 mod timed {
-    use crate::rows::{grouped, Both, Row};
+    use crate::rows::{Rounds, Row};
     use oracle::abi::{self, Answer, Handed, Lent, State, Tables};
     use oracle::asked;
     use oracle::changed::{Change, Holding};
@@ -87,9 +89,12 @@ mod timed {
     use std::io::{Cursor, Read, Seek, SeekFrom, Write};
     use std::time::{Duration, Instant};
 
-    /// How often each side is timed, after a few rounds that are not counted.
-    pub const ROUNDS: usize = 201;
-    pub const FIRST: usize = 10;
+    /// How often everything is gone through, each time with memory that lies elsewhere.
+    pub const PASSES: usize = 5;
+
+    /// How often each side is timed in a pass, after a few rounds that are not counted.
+    pub const ROUNDS: usize = 41;
+    pub const FIRST: usize = 5;
 
     /// Sectors of the images.
     pub const SIZES: [usize; 4] = [128, 1_024, 4_096, 16_384];
@@ -101,9 +106,10 @@ mod timed {
     const ADDED: usize = 16 * 512;
 
     pub const SAID: &str = "\
-Both sides are called in alternation, and take turns at being first. Everything lent is in memory, and was touched just
-before. Images are of version 3; the FAT and DIFAT sectors come first, the last eighth of all sectors is FREE, and those
-between are one chain, in ascending order or scattered. All bytes are used.
+Both sides are called in alternation, and take turns at being first; each pass goes through all rows, with memory that lies
+elsewhere. Everything lent is in memory, and was touched just before. Images are of version 3; the FAT and DIFAT sectors
+come first, the last eighth of all sectors is FREE, and those between are one chain, in ascending order or scattered. All
+bytes are used.
 
 - opening, ours: `rasuvelk_open`, strict. The tables are lent, R elements each, and hold rubbish.
 - opening, the Rust's: `Header::read_from`, the stand-ins' loading of the lists and of the FAT into vectors of its own, and
@@ -162,7 +168,7 @@ between are one chain, in ascending order or scattered. All bytes are used.
     }
 
     /// Times two in alternation.
-    fn both(mut ours: impl FnMut() -> Duration, mut rusts: impl FnMut() -> Duration) -> Both {
+    fn both(mut ours: impl FnMut() -> Duration, mut rusts: impl FnMut() -> Duration) -> Rounds {
         let (mut first, mut second) = (Vec::new(), Vec::new());
         for round in 0..FIRST + ROUNDS {
             let (one, other) = if round % 2 == 0 {
@@ -177,7 +183,7 @@ between are one chain, in ascending order or scattered. All bytes are used.
                 second.push(other.as_secs_f64() * 1e6);
             }
         }
-        Both::of(first, second)
+        Rounds { ours: first, rusts: second }
     }
 
     /// An image that is timed, and what the opening gave.
@@ -242,7 +248,7 @@ between are one chain, in ascending order or scattered. All bytes are used.
         }
 
         /// The whole chain read by both, after a look at what they read.
-        fn read(&self) -> Both {
+        fn read(&self) -> Rounds {
             let mut rust = image::lend(self.bytes(), Strict).unwrap();
             let chain = asked::open_chain(&mut rust, self.start).unwrap();
             let [mut ours, mut rusts] = [vec![0x11; 512 * chain.len()], vec![0x22; 512 * chain.len()]];
@@ -266,7 +272,7 @@ between are one chain, in ascending order or scattered. All bytes are used.
         }
 
         /// The chain walked by both.
-        fn walk(&self) -> Both {
+        fn walk(&self) -> Rounds {
             let mut rust = image::lend(self.bytes(), Strict).unwrap();
             let mut ids = vec![0; self.tables.fat.len()];
             let mut answer = [7; 3];
@@ -297,7 +303,7 @@ between are one chain, in ascending order or scattered. All bytes are used.
         }
 
         /// A change made by both, after a look at what they make of it.
-        fn change(&self, change: &Change) -> Both {
+        fn change(&self, change: &Change) -> Rounds {
             let mut held = self.holding();
             let mut ids = vec![0; self.tables.fat.len()];
             let mut answer = [7; 3];
@@ -358,7 +364,7 @@ between are one chain, in ascending order or scattered. All bytes are used.
     }
 
     /// Everything that is timed, at one size and in one order.
-    fn at(n: usize, scattered: bool) -> Vec<(&'static str, Both)> {
+    fn at(n: usize, scattered: bool) -> Vec<(&'static str, Rounds)> {
         let timed = Timed::new(n, n / 8, 0, scattered);
         let full = Timed::new(n - SPARE, 0, SPARE, scattered);
         let half = timed.length() / 1024 * 512;
@@ -377,12 +383,20 @@ between are one chain, in ascending order or scattered. All bytes are used.
     }
 
     pub fn all() -> Vec<Row> {
-        let mut rows = Vec::new();
-        for n in SIZES {
-            for (scattered, order) in [(false, "ascending"), (true, "scattered")] {
-                eprintln!("bench: {} sectors, {order}", grouped(n));
-                let timed = at(n, scattered).into_iter();
-                rows.extend(timed.map(|(what, both)| Row { what, order, n, both }));
+        let mut rows: Vec<Row> = Vec::new();
+        for pass in 0..PASSES {
+            eprintln!("bench: pass {} of {PASSES}", pass + 1);
+            // moves what is allocated after it
+            let _elsewhere = black_box(vec![1u8; 1 + 1_808 * pass]);
+            for n in SIZES {
+                for (scattered, order) in [(false, "ascending"), (true, "scattered")] {
+                    for (what, rounds) in at(n, scattered) {
+                        match rows.iter_mut().find(|row| (row.what, row.order, row.n) == (what, order, n)) {
+                            Some(row) => row.rounds.add(rounds),
+                            None => rows.push(Row { what, order, n, rounds }),
+                        }
+                    }
+                }
             }
         }
         rows

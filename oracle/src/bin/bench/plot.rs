@@ -84,8 +84,8 @@ fn panel(svg: &mut String, axes: &Axes, what: &str, rows: &[&Row], sizes: &[usiz
     }
     for (order, dashed) in [("ascending", false), ("scattered", true)] {
         let these: Vec<&&Row> = rows.iter().filter(|row| row.order == order).collect();
-        let ours: Vec<(usize, Spread)> = these.iter().map(|row| (row.n, row.both.ours)).collect();
-        let rusts: Vec<(usize, Spread)> = these.iter().map(|row| (row.n, row.both.rusts)).collect();
+        let ours: Vec<(usize, Spread)> = these.iter().map(|row| (row.n, row.ours())).collect();
+        let rusts: Vec<(usize, Spread)> = these.iter().map(|row| (row.n, row.rusts())).collect();
         curve(svg, axes, &rusts, RUSTS, dashed);
         curve(svg, axes, &ours, OURS, dashed);
     }
@@ -127,7 +127,7 @@ pub fn svg(rows: &[Row], sizes: &[usize]) -> String {
     );
     head(&mut svg);
     let ends = |pick: fn(&Spread) -> f64, least: fn(f64, f64) -> f64, from: f64| {
-        rows.iter().flat_map(|row| [pick(&row.both.ours), pick(&row.both.rusts)]).fold(from, least)
+        rows.iter().flat_map(|row| [pick(&row.ours()), pick(&row.rusts())]).fold(from, least)
     };
     let low = ends(|side| side.low, f64::min, f64::INFINITY).log2().floor();
     let top = ends(|side| side.high, f64::max, 0.0).log2().ceil();

@@ -18,19 +18,16 @@ impl Spread {
     }
 }
 
-/// One thing that was timed on both sides, in microseconds, and each round's ratio.
-#[derive(Clone, Copy)]
-pub struct Both {
-    pub ours: Spread,
-    pub rusts: Spread,
-    pub ratio: Spread,
+/// The times of each round, in microseconds.
+pub struct Rounds {
+    pub ours: Vec<f64>,
+    pub rusts: Vec<f64>,
 }
 
-impl Both {
-    /// Of the times of each round.
-    pub fn of(ours: Vec<f64>, rusts: Vec<f64>) -> Both {
-        let ratio = Spread::of(ours.iter().zip(&rusts).map(|(one, other)| one / other).collect());
-        Both { ours: Spread::of(ours), rusts: Spread::of(rusts), ratio }
+impl Rounds {
+    pub fn add(&mut self, more: Rounds) {
+        self.ours.extend(more.ours);
+        self.rusts.extend(more.rusts);
     }
 }
 
@@ -39,7 +36,22 @@ pub struct Row {
     pub what: &'static str,
     pub order: &'static str,
     pub n: usize,
-    pub both: Both,
+    pub rounds: Rounds,
+}
+
+impl Row {
+    pub fn ours(&self) -> Spread {
+        Spread::of(self.rounds.ours.clone())
+    }
+
+    pub fn rusts(&self) -> Spread {
+        Spread::of(self.rounds.rusts.clone())
+    }
+
+    /// Of the ratios of each round's two times.
+    fn ratio(&self) -> Spread {
+        Spread::of(self.rounds.ours.iter().zip(&self.rounds.rusts).map(|(one, other)| one / other).collect())
+    }
 }
 
 /// 16384 as 16,384.
@@ -108,8 +120,8 @@ fn growth(rows: &[Row], sizes: &[usize]) -> String {
         let of = |n| rows.iter().find(|row| (row.what, row.order, row.n) == (what, order, n));
         for two in sizes.windows(2) {
             if let (Some(small), Some(large)) = (of(two[0]), of(two[1])) {
-                let ours = large.both.ours.median / small.both.ours.median;
-                let rusts = large.both.rusts.median / small.both.rusts.median;
+                let ours = large.ours().median / small.ours().median;
+                let rusts = large.rusts().median / small.rusts().median;
                 write!(text, " {ours:.1} / {rusts:.1} |").unwrap();
             } else {
                 text.push_str(" |");
@@ -123,12 +135,11 @@ fn growth(rows: &[Row], sizes: &[usize]) -> String {
 /// The three tables.
 pub fn tables(rows: &[Row], sizes: &[usize]) -> String {
     let medians = table(rows, sizes, |row| {
-        let Both { ours, rusts, ratio } = row.both;
-        format!("{} / {}: **{:.2}**", time(ours.median), time(rusts.median), ratio.median)
+        format!("{} / {}: **{:.2}**", time(row.ours().median), time(row.rusts().median), row.ratio().median)
     });
     let spreads = table(rows, sizes, |row| {
-        let Both { ours, rusts, ratio } = row.both;
-        let [ours, rusts] = [ours, rusts].map(|side| format!("{} to {}", time(side.low), time(side.high)));
+        let ratio = row.ratio();
+        let [ours, rusts] = [row.ours(), row.rusts()].map(|side| format!("{} to {}", time(side.low), time(side.high)));
         format!("{ours} / {rusts}: {:.2} to {:.2}", ratio.low, ratio.high)
     });
     format!(
