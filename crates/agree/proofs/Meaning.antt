@@ -145,7 +145,7 @@ permuted-agrees m img used sectors free h fat fats difats frees marks other q p 
     })))
 
 -- the ascending free list holds each FREE sector once
-ascending-once : (n : ℕ) (fat : List ℕ) → FreesOnce n fat (freesOf n fat)
+pub ascending-once : (n : ℕ) (fat : List ℕ) → FreesOnce n fat (freesOf n fat)
 ascending-once n fat =
     record {
       below = λ j l. frees-exactly n fat (getD (freesOf n fat) j 0) .0 (j, l, refl) .0;

@@ -1,8 +1,8 @@
 -- A change that nothing before 23 stands against has a chain in hand that fits, of sectors listed once. Assumes nothing.
-use Prim.Native.Nat.{ℕ, zero, suc, _+_, _-_, _*_, _≤_, _<_, min}
+use Prim.Native.Nat.{ℕ, suc, _+_, _-_, _*_, _≤_, _<_, min}
 use mathlib.Core.Path.{_≡_, refl, sym, _∙_, ap}
 use mathlib.Core.Bool.{Bool, true, false}
-use mathlib.Core.List.{List, [], _∷_}
+use mathlib.Core.List.{List}
 use mathlib.Core.Logic.{_⊎_, inl, inr, ⊎-elim, _≢_}
 use native.Mathlib.Omega.{arith}
 use borrow.Author.Tests.{ltb-false, lt-ltb, le-ltb, not-false}
@@ -22,7 +22,7 @@ use Rattle.alloc.specs.Opened.{padded}
 use Rattle.agree.specs.Agrees.{FreesOnce}
 use Rattle.agree.proofs.Meaning.{agrees-exactly}
 use Rattle.chain.specs.Steps.{Sectors, Linked}
-use Rattle.chain.proofs.Chains.{walk-sectors, lists-exactly}
+use Rattle.chain.proofs.Chains.{getD-any, walk-sectors, lists-exactly}
 use Rattle.hand.specs.Fits.{FitsHand, FitsChain}
 use Rattle.moves.specs.Change.{Apart}
 use Rattle.moves.proofs.Changing.{chain-bytes-small}
@@ -42,12 +42,6 @@ use Rattle.cfb.proofs.Refusing.{padded-front, refused-early, refused-mo
 length-padded : (xs : List ℕ) (m : ℕ) → length xs ≤ m → length (padded xs m) ≡ m
 unfolding padded
 length-padded xs m h = length-append xs (replicate (m - length xs) 0) ∙ omega (arith, length-replicate {A = ℕ} (m - length xs) 0)
-
--- an element of a list does not depend on what stands for none
-getD-some : (l : List ℕ) (i d : ℕ) → i < length l → getD l i d ≡ getD l i 0
-getD-some [] i d h = absurd (omega arith)
-getD-some (x ∷ l) zero d h = refl
-getD-some (x ∷ l) (suc i) d h = getD-some l i d (omega arith)
 
 -- a numbers and b others, all different and below n, are no more than n
 module _ (n a b : ℕ) (f g : ℕ → ℕ) where
@@ -118,7 +112,7 @@ module _ (s : State) (img : List ℕ) (t : Tables) (room start : ℕ) (z : chang
   sectors : Sectors (take (s .sectors) (t .fat)) ids
   sectors = walk-sectors _ start _ (chained .few) (lists-chain s img t room start chain-zero)
 
-  linked : Linked (take (s .sectors) (t .fat)) start ids
+  pub linked : Linked (take (s .sectors) (t .fat)) start ids
   linked = lists-exactly _ start _ (chained .few) .0 (lists-chain s img t room start chain-zero)
 
   hand : FitsHand S R (chainFrom s img t room start .hand)
@@ -146,7 +140,7 @@ module _ (s : State) (img : List ℕ) (t : Tables) (room start : ℕ) (z : chang
   pub next-kind : (j : ℕ) → j < length ids → (getD (take (s .sectors) (t .fat)) (getD ids j 0) 0 ≡ endOfChain) ⊎ (getD (take (s .sectors) (t .fat)) (getD ids j 0) 0 < s .sectors)
   next-kind j h =
       ⊎-elim
-      (λ (l : suc j < length ids). inr (omega (arith, linked .next j h, getD-some ids (suc j) endOfChain l, id-below (suc j) l)))
+      (λ (l : suc j < length ids). inr (omega (arith, linked .next j h, getD-any ids (suc j) endOfChain 0 l, id-below (suc j) l)))
       (λ (g : length ids ≤ suc j). inl (linked .next j h ∙ List·getD-eq-default ids endOfChain g))
       (below-or (suc j) (length ids))
 

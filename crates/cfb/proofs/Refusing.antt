@@ -153,7 +153,7 @@ zeros-zero : (m i : ℕ) → getD {A = ℕ} (replicate m 0) i 0 ≡ 0
 zeros-zero m i =
     ⊎-elim (λ (l : i < m). getD-replicate m i 0 0 l) (λ (g : m ≤ i). List·getD-eq-default (replicate m 0) 0 (rw (length-replicate {A = ℕ} m 0) g)) (below-or i m)
 
-padded-past : (xs : List ℕ) (m i : ℕ) → length xs ≤ i → getD (padded xs m) i 0 ≡ 0
+pub padded-past : (xs : List ℕ) (m i : ℕ) → length xs ≤ i → getD (padded xs m) i 0 ≡ 0
 unfolding padded
 padded-past xs m i h =
     let at : i ≡ length xs + (i - length xs) = omega arith in

@@ -16,7 +16,7 @@ use Rattle.chain.proofs.Walking.{walk-ends}
 use Rattle.chain.proofs.Exactly.{Ended, listed-steps}
 
 -- within a list the value past its end does not matter
-getD-any : (l : List ℕ) (i d e : ℕ) → i < length l → getD l i d ≡ getD l i e
+pub getD-any : (l : List ℕ) (i d e : ℕ) → i < length l → getD l i d ≡ getD l i e
 getD-any [] i d e h = absurd (omega arith)
 getD-any (x ∷ l) zero d e h = refl
 getD-any (x ∷ l) (suc i) d e h = getD-any l i d e (omega arith)

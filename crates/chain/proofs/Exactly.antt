@@ -1,16 +1,13 @@
 -- A walk gives each of document 01's 20 to 22 exactly when its cause holds, and where no sector is pointed to twice its fuel is never spent. Assumes nothing.
 use Prim.Native.Nat.{ℕ, zero, suc, _≤_, _<_}
 use mathlib.Core.Path.{_≡_, refl, _∙_, sym, ap}
-use mathlib.Core.Bool.{false}
 use mathlib.Core.List.{List}
 use mathlib.Core.Logic.{⊎-elim, _≢_, _↔_}
 use native.Mathlib.Omega.{arith}
 use lib.ListN.{length}
 use Rattle.lists.specs.Lists.{tab}
-use Rattle.lists.proofs.Cases.{below-or, not-both}
+use Rattle.lists.proofs.Cases.{below-or}
 use Rattle.consts.specs.Consts.{maxRegular, endOfChain}
-use Rattle.judge.specs.Judge.{pointed}
-use Rattle.judge.proofs.Judging.{pointed-by}
 use Rattle.chain.specs.Walk.{Outcome, lists, refuses, walkOf}
 use Rattle.chain.specs.Steps.{stepped, Path, Returns, Breaks, Once, Unpointed}
 use Rattle.chain.proofs.Steps.{stepped-next, stepped-none, leaves-different, going-most}
@@ -102,7 +99,3 @@ module _ (fat : List ℕ) (start : ℕ) (few : length fat ≤ maxRegular) where
       at : (k : ℕ) → 0 < k → Path fat start k → stepped fat start k ≡ start → ⊥
       at zero pos p e = omega arith
       at (suc k) pos p e = u .none (stepped fat start k) (p .within k (omega arith)) (sym (stepped-next fat start k) ∙ e)
-
--- a start that judging found no entry to point at
-pub unpointed-of : (fat : List ℕ) (start : ℕ) → pointed fat (length fat) start ≡ false → Unpointed fat start
-unpointed-of fat start f = record { none = λ i h e. not-both (pointed-by fat (length fat) start i h e) f }

@@ -13,9 +13,9 @@ use Rattle.lists.proofs.Cases.{below-or, same-or}
 use Rattle.lists.proofs.Splice.{putMid-splice}
 use Rattle.sectors.specs.Sectors.{startOf, sectorOf}
 use Rattle.sectors.proofs.Laws.{scaled}
-use Rattle.chain.specs.Bytes.{chainBytes, Lies}
+use Rattle.chain.specs.Bytes.{chainBytes}
 use Rattle.chain.specs.Stores.{writeBytes, tailOf, zeroTail, Writable, Outside}
-use Rattle.chain.proofs.Stored.{write-length, write-chain, write-apart, write-sector, write-other, write-none, write-run}
+use Rattle.chain.proofs.Stored.{write-length, write-chain, write-apart, write-sector, write-none, write-run}
 use Rattle.chain.proofs.Writing.{sector-back}
 
 -- zeros over the part that is lent for them
@@ -98,12 +98,6 @@ module _ (S : ℕ) (img ids : List ℕ) (o : ℕ) (w : Writable S (length img) i
   pub zero-sector : (j : ℕ) → startOf S j + S ≤ length img → ((i : ℕ) → i < length ids → getD ids i 0 ≢ j) → sectorOf S (zeroTail S img ids o) j ≡ sectorOf S img j
   unfolding zeroTail
   zero-sector = write-sector S img ids o (replicate (tailOf S o) 0) (writable-tail S (length img) ids o w)
-
-  pub zero-other : (others : List ℕ) → Lies S (length img) others
-      → ((i j : ℕ) → i < length ids → j < length others → getD ids i 0 ≢ getD others j 0)
-      → chainBytes S (zeroTail S img ids o) others ≡ chainBytes S img others
-  unfolding zeroTail
-  zero-other = write-other S img ids o (replicate (tailOf S o) 0) (writable-tail S (length img) ids o w)
 
   -- where a sector begins nothing is zeroed
   pub zero-begins : o % S ≡ 0 → zeroTail S img ids o ≡ img

@@ -7,7 +7,7 @@ use native.Mathlib.Omega.{arith}
 use native.Mathlib.Nat.{mod-lt, div-le-self}
 use native.Mathlib.Numerals.{add-one}
 use borrow.Author.Tests.{lt-ltb, le-ltb, eq-eqb, ne-eqb}
-use lib.ListN.{length, getD, set}
+use lib.ListN.{length, getD}
 use Rattle.lists.specs.Lists.{choose}
 use Rattle.lists.proofs.Cases.{below-or, same-or, true-or}
 use Rattle.words.specs.Words.{digits}
@@ -223,12 +223,6 @@ new-fits S R d f = whole-of S R (oneMore S (d .sectors)) (newSector S d) (new-se
 
 pub new-long : (S R : ℕ) (d : Disk) → FitsNew S R d → SameLong d (newSector S d)
 new-long S R d f = new-kept S R d f .long
-
-pub new-image-length : (S R : ℕ) (d : Disk) → FitsNew S R d → length (newSector S d .image) ≡ length (d .image)
-new-image-length S R d f = new-kept S R d f .long .image-same
-
-pub append-long : (S R : ℕ) (d : Disk) → FitsFat S R d → SameLong d (appendFat S d)
-append-long S R d f = fat-kept S R d f .long
 
 -- an entry that is set
 pub set-fits : (S R k j : ℕ) (d : Disk) (i v : ℕ) → i / perSector S < k → Fits S R k j d → Fits S R k j (setFat S d i v)

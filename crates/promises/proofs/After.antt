@@ -104,7 +104,7 @@ module _ (s : State) (img : List ℕ) (t : Tables) (room start : ℕ) where
           leaves = resize-leaves s img t room start len z;
           formed = resize-forms s img t room start len z;
           coded = coded-resized (stateLen s) R len before f r (before-coded s img t room start a);
-          tailed = tailed-resized (stateLen s) R len before f r (before-tailed s img t room start a);
+          tailed = tailed-resized (stateLen s) R len before f (before-tailed s img t room start a);
         }
 
     -- document 01, 19: the state, the image and the tables that it leaves agree
@@ -137,7 +137,7 @@ module _ (s : State) (img : List ℕ) (t : Tables) (room start : ℕ) where
           leaves = write-leaves s img t room start offset buf z;
           formed = write-forms s img t room start offset buf z;
           coded = coded-written (stateLen s) R offset buf before f r (before-coded s img t room start a);
-          tailed = tailed-written (stateLen s) R offset buf before f r (before-tailed s img t room start a);
+          tailed = tailed-written (stateLen s) R offset buf before f (before-tailed s img t room start a);
         }
 
     -- document 01, 19: the state, the image and the tables that it leaves agree

@@ -18,8 +18,8 @@ use Rattle.moves.proofs.Changing.{resized-more, resized-fewer, resize-shrink}
 use Rattle.cfb.specs.Calls.{stateLen, chainIds}
 use Rattle.cfb.specs.Changes.{resizeNo, chainFrom}
 use Rattle.cfb.specs.declared.State.{State}
+use Rattle.cfb.proofs.Refusing.{padded-past}
 use Rattle.promises.proofs.Calls.{resize-fits}
-use Rattle.promises.proofs.Walks.{zero-past}
 
 -- zeros stand behind the ids of a chain in hand
 abbrev pub Cleared : Chain → Type 0
@@ -37,7 +37,7 @@ shrink-cleared : (S R m : ℕ) (c : Chain) → FitsShrink S R m c → Cleared c 
 shrink-cleared S R m c f k i l =
     let b : m ≤ i = omega (arith, l, shrink-count S R m c f) in
     ⊎-elim
-    (λ (u : m < c .count). rw (shrink-some S c m u) (zero-past (take m (c .ids)) (length (c .ids)) i (omega (arith, b, length-take-le m (c .ids) (shrink-place S R m c f)))))
+    (λ (u : m < c .count). rw (shrink-some S c m u) (padded-past (take m (c .ids)) (length (c .ids)) i (omega (arith, b, length-take-le m (c .ids) (shrink-place S R m c f)))))
     (λ (g : c .count ≤ m). rw (shrink-none S c m g) (k i (omega (arith, g, b))))
     (below-or m (c .count))
 
@@ -61,7 +61,7 @@ written-cleared S offset buf c k = extend-cleared S (writeMore S (c .count) offs
 module _ (s : State) (img : List ℕ) (t : Tables) (room start : ℕ) where
   before-cleared : Cleared (chainFrom s img t room start)
   unfolding chainFrom
-  before-cleared i l = zero-past (chainIds s t start) room i l
+  before-cleared i l = padded-past (chainIds s t start) room i l
 
   -- document 01: on success the id list holds the chain's ids after the call, then zeros: so after an accepted resize,
   pub resize-cleared : (len : ℕ) → resizeNo s img t room start len ≡ 0 → Cleared (resized (stateLen s) (chainFrom s img t room start) len)

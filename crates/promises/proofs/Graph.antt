@@ -1,7 +1,7 @@
 -- The chain in hand stays one of the FAT's, with nothing pointing at its first sector, under each move. Assumes nothing.
 use Prim.Native.Nat.{ℕ, zero, suc, _-_, _≤_, _<_}
 use mathlib.Core.Path.{_≡_, refl, _∙_, sym, ap}
-use mathlib.Core.List.{List, [], _∷_}
+use mathlib.Core.List.{List}
 use mathlib.Core.Logic.{⊎-elim, _≢_}
 use native.Mathlib.Omega.{arith}
 use lib.ListN.{length, getD, take, List·getD-eq-default}
@@ -12,6 +12,7 @@ use Rattle.fat.specs.Lists.{ceil}
 use Rattle.disk.specs.Needed.{resizeMore, writeMore}
 use Rattle.hand.specs.Hand.{Hand, Chain, takenId, takeSector, freeRun, extendOne, extend}
 use Rattle.hand.specs.Fits.{FitsChain, FitsMore}
+use Rattle.chain.proofs.Chains.{getD-any}
 use Rattle.moves.specs.Change.{cut, shrink, withImage, idsOf, resized, written, FitsShrink, FitsResize, FitsWrite}
 use Rattle.hand.proofs.Taking.{id-new, id-last}
 use Rattle.hand.proofs.Linking.{linked-none, linked-last, one-count, one-sectors, one-fits, more-room, more-taken, more-place, more-last}
@@ -23,12 +24,6 @@ use Rattle.edits.specs.Roles.{Roles}
 use Rattle.edits.proofs.Roles.{one-roles}
 use Rattle.promises.specs.Whole.{Formed, Held, fatHeld}
 use Rattle.promises.proofs.Entries.{Taken, point-entry, point-others, point-length, free-run-others, free-run-either, take-taken}
-
--- within a list the value past its end does not matter
-pub getD-any : (l : List ℕ) (i d e : ℕ) → i < length l → getD l i d ≡ getD l i e
-getD-any [] i d e h = absurd (omega arith)
-getD-any (x ∷ l) zero d e h = refl
-getD-any (x ∷ l) (suc i) d e h = getD-any l i d e (omega arith)
 
 -- a chain that is held, over the lent lists
 pub record Strung (n : ℕ) (fat : List ℕ) (count : ℕ) (ids : List ℕ) : Type 0 where

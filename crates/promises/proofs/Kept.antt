@@ -15,14 +15,14 @@ use Rattle.header.specs.declared.Validation.the-variants.{Strict}
 use Rattle.fat.specs.Lists.{allBelow}
 use Rattle.alloc.specs.Opening.{Tables, openTables, openNo, shortest, leftIn}
 use Rattle.alloc.specs.Opened.{padded, tablesLeft}
-use Rattle.agree.specs.Agree.{occurs, timesFree, anyOrder}
-use Rattle.agree.specs.Agrees.{FreesOnce, Agrees, Permuted}
-use Rattle.agree.proofs.Freeing.{occurs-place, order-exactly}
-use Rattle.agree.proofs.Meaning.{agrees-exactly, opened-agrees}
+use Rattle.points.specs.Frees.{occurs, timesFree, anyOrder, FreesOnce}
+use Rattle.points.proofs.Freeing.{occurs-place, order-exactly}
+use Rattle.agree.specs.Agrees.{Agrees, Permuted}
+use Rattle.agree.proofs.Meaning.{agrees-exactly, opened-agrees, ascending-once}
 use Rattle.cfb.specs.Face.{sectorsOf, tablesOf, stateOf}
 use Rattle.cfb.specs.declared.State.{State}
 use Rattle.promises.specs.Demand.{InHand, Fresh, opened}
-use Rattle.promises.proofs.Reopening.{ascending-once, once-counts}
+use Rattle.promises.proofs.Reopening.{once-counts}
 
 -- what is in hand is strict, and agrees with its image (document 01, 19)
 pub record Sure (h : InHand) : Type 0 where

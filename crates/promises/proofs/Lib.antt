@@ -12,6 +12,7 @@ pub mod Following
 pub mod Forming
 pub mod Graph
 pub mod Growing
+pub mod Heading
 pub mod Kept
 pub mod Naming
 pub mod Others

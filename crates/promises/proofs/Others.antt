@@ -13,7 +13,7 @@ use Rattle.alloc.specs.Opening.{Tables}
 use Rattle.chain.specs.Bytes.{chainBytes}
 use Rattle.chain.specs.Steps.{Linked}
 use Rattle.chain.specs.Walk.{lists, walkOf}
-use Rattle.chain.proofs.Chains.{lists-exactly}
+use Rattle.chain.proofs.Chains.{getD-any, lists-exactly}
 use Rattle.disk.specs.Needed.{resizeMore, writeMore}
 use Rattle.hand.specs.Hand.{Hand, Chain, takenId, takeSector, linked, extendOne, extend}
 use Rattle.hand.specs.Fits.{FitsChain, FitsMore}
@@ -33,7 +33,7 @@ use Rattle.promises.specs.Whole.{Formed, Held, fatHeld}
 use Rattle.promises.proofs.Base.{roles-of}
 use Rattle.promises.proofs.Calls.{resize-rows, resize-fits, resize-keeps, write-rows, write-fits, write-keeps}
 use Rattle.promises.proofs.Entries.{point-others, free-run-others, take-taken}
-use Rattle.promises.proofs.Graph.{getD-any, held-strung, held-length}
+use Rattle.promises.proofs.Graph.{held-strung, held-length}
 use Rattle.promises.proofs.Parts.{Listings, formed-listings}
 use Rattle.promises.proofs.Walks.{held-of, formed-of}
 
@@ -89,7 +89,8 @@ pub extend-entries : (S R m : ℕ) (c : Chain) → FitsMore S R m c → (x : ℕ
 extend-entries S R zero c f x a = rw extend-none refl
 extend-entries S R (suc m) c f x a = rw extend-more (extend-entries S R m (extendOne S c) (one-fits f) x (one-aloof S R m c f x a) ∙ one-entry S R m c f x a)
 
-extend-least : (S m : ℕ) (c : Chain) → c .hand .disk .sectors ≤ extend S c m .hand .disk .sectors
+-- document 01: a chain that grows leaves no fewer sectors
+pub extend-least : (S m : ℕ) (c : Chain) → c .hand .disk .sectors ≤ extend S c m .hand .disk .sectors
 extend-least S zero c = rw extend-none (omega arith)
 extend-least S (suc m) c = rw extend-more (omega (arith, extend-least S m (extendOne S c), one-sectors S c, take-sectors-grow S (c .hand)))
 

@@ -27,27 +27,28 @@ use Rattle.header.specs.declared.Validation.the-variants.{Strict}
 use Rattle.header.proofs.Given.{strict}
 use Rattle.fat.specs.Lists.{sectorsIn, roomOf, difatsIn, fatsIn}
 use Rattle.judge.specs.Judge.{marksOf, freesOf}
-use Rattle.judge.proofs.Judging.{frees-exactly, frees-ascend}
 use Rattle.alloc.specs.Opening.{Tables, firstRows, tableRows, openFat, openTables, shortest}
 use Rattle.alloc.specs.Opened.{padded}
 use Rattle.alloc.proofs.First.{early-passed}
 use Rattle.alloc.proofs.Filled.{front-padded, length-openFat, length-marks, length-fats, length-difats}
-use Rattle.agree.specs.Agrees.{FreesOnce, Held, Agrees}
+use Rattle.points.specs.Frees.{FreesOnce}
+use Rattle.agree.specs.Agrees.{Held, Agrees}
 use Rattle.sound.specs.Sound.{Encodes, Sound, Accepts}
 use Rattle.sound.proofs.Sound.{strict-sound, opens-sound}
 use Rattle.hand.specs.Hand.{Hand}
 use Rattle.hand.specs.Fits.{FitsHand}
+use Rattle.agree.proofs.Meaning.{ascending-once}
 use Rattle.cfb.specs.Calls.{stateLen}
 use Rattle.cfb.specs.Changes.{changeNo, chainFrom}
 use Rattle.cfb.specs.declared.State.{State}
 use Rattle.cfb.proofs.Agreed.{parts, agreed-front}
 use Rattle.cfb.proofs.Fitted.{handIn, agreed-fits}
 use Rattle.cfb.proofs.Ready.{agrees, strict-mode}
+use Rattle.cfb.proofs.Refusing.{padded-past}
 use Rattle.promises.specs.Coded.{Coded}
 use Rattle.promises.specs.Tails.{Tailed}
 use Rattle.promises.specs.Whole.{Formed, fatHeld, fatsList, difatsList}
 use Rattle.promises.proofs.Encoding.{encoded-coded, coded-encoded}
-use Rattle.promises.proofs.Walks.{zero-past}
 
 -- parts of equally long lists are the same where their elements are
 part-same : (b c : List ℕ) (o k : ℕ) → length b ≡ length c → ((i : ℕ) → i < k → getD b (o + i) 0 ≡ getD c (o + i) 0) → part b o k ≡ part c o k
@@ -149,19 +150,6 @@ once-few n fat xs ys f g =
     picked : (i : ℕ) → i < length xs → (w : (i < length xs) ⊎ (length xs ≤ i)) → getD ys (pick i w) 0 ≡ getD xs i 0
     picked i l (inl h) = at i h .2
     picked i l (inr h) = absurd (omega (arith, l, h))
-
--- document 01: the ascending free list is one
-pub ascending-once : (n : ℕ) (fat : List ℕ) → FreesOnce n fat (freesOf n fat)
-ascending-once n fat = record {
-  below = λ j l. frees-exactly n fat (getD (freesOf n fat) j 0) .0 (j, l, refl) .0;
-  free = λ j l. frees-exactly n fat (getD (freesOf n fat) j 0) .0 (j, l, refl) .1;
-  once = λ i j hi hj e.
-      ⊎-elim
-      (λ (a : i < j). absurd (omega (arith, frees-ascend n fat i j a hj, e)))
-      (λ (a : j ≤ i). ⊎-elim (λ (b : j < i). absurd (omega (arith, frees-ascend n fat j i b hi, e))) (λ (b : i ≤ j). omega arith) (below-or j i))
-      (below-or i j);
-  all = λ i l e. frees-exactly n fat i .1 (l, e);
-}
 
 pub once-counts : (n : ℕ) (fat xs : List ℕ) → FreesOnce n fat xs → length xs ≡ length (freesOf n fat)
 once-counts n fat xs f = omega (arith, once-few n fat xs (freesOf n fat) f (ascending-once n fat), once-few n fat (freesOf n fat) xs (ascending-once n fat) f)
@@ -324,7 +312,7 @@ module _ (m : Validation) (img : List ℕ) (used free : ℕ) (t : Tables) where
     }
       where
         past : (now xs : List ℕ) (i : ℕ) → now ≡ padded xs (length now) → length xs ≤ i → getD now i 0 ≡ 0
-        past now xs i e g = ap (λ (l : List ℕ). getD l i 0) e ∙ zero-past xs (length now) i g
+        past now xs i e g = ap (λ (l : List ℕ). getD l i 0) e ∙ padded-past xs (length now) i g
 
 -- what agrees, with the header and the count of the image
 agrees-own : (m : Validation) (img : List ℕ) (used sectors n free : ℕ) (h h' : Header) (t : Tables) → h ≡ h' → sectors ≡ n → Agrees m img used sectors free h t → Agrees m img used n free h' t

@@ -26,7 +26,7 @@ use Rattle.hand.proofs.Linking.{linked-none, linked-last, one-fits, more-room, 
 use Rattle.moves.proofs.Extending.{extend-none, extend-more}
 use Rattle.moves.proofs.Shrinking.{shrink-none, shrink-some, shrink-last, shrink-frees}
 use Rattle.moves.proofs.Changing.{resized-more, resized-fewer, resize-shrink}
-use Rattle.edits.specs.Roles.{Roles, fatsHeld, difatsHeld}
+use Rattle.edits.specs.Roles.{fatsHeld, difatsHeld}
 use Rattle.edits.proofs.Growing.{GrownTo, needs-far, append-fats, append-difats-same, append-difats-more, new-fats, new-grown, reused-lists}
 use Rattle.promises.specs.Tails.{Tailed}
 use Rattle.promises.proofs.Entries.{append-fat-same, append-fat-more, new-fat, reused-fat}
@@ -223,8 +223,8 @@ unfolding withImage
 tailed-with S c img t = record { fat = t .fat; fats = t .fats; difats = t .difats; frees = t .frees; marks = t .marks }
 
 -- document 01, Resize: past its count each table holds zero then
-pub tailed-resized : (S R len : ℕ) (c : Chain) → FitsResize S R len c → Roles S R c → Tailed S (c .hand) → Tailed S (resized S c len .hand)
-tailed-resized S R len c f r t =
+pub tailed-resized : (S R len : ℕ) (c : Chain) → FitsResize S R len c → Tailed S (c .hand) → Tailed S (resized S c len .hand)
+tailed-resized S R len c f t =
     ⊎-elim
     (λ (l : c .count < ceil len S). rw (resized-more S c len l) (tailed-extended S R (resizeMore S (c .count) len) c (f .fits) t))
     (λ (g : ceil len S ≤ c .count).
@@ -232,8 +232,8 @@ tailed-resized S R len c f r t =
     (below-or (c .count) (ceil len S))
 
 -- document 01, Write: and so it does then
-pub tailed-written : (S R offset : ℕ) (buf : List ℕ) (c : Chain) → FitsWrite S R offset (length buf) c → Roles S R c → Tailed S (c .hand)
+pub tailed-written : (S R offset : ℕ) (buf : List ℕ) (c : Chain) → FitsWrite S R offset (length buf) c → Tailed S (c .hand)
     → Tailed S (written S c offset buf .hand)
 unfolding written
-tailed-written S R offset buf c f r t =
+tailed-written S R offset buf c f t =
     tailed-with S (extend S c (writeMore S (c .count) offset (length buf))) _ (tailed-extended S R (writeMore S (c .count) offset (length buf)) c (f .fits) t)

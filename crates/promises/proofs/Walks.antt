@@ -1,15 +1,15 @@
 -- A change that nothing before 23 stands against has well-formed tables and a held chain in hand; the ids of a held chain are the walk from its start. Assumes nothing.
-use Prim.Native.Nat.{ℕ, _-_, _+_, _≤_, _<_}
+use Prim.Native.Nat.{ℕ, _-_, _<_}
 use mathlib.Core.Path.{_≡_, refl, _∙_, sym, ap}
 use mathlib.Core.Bool.{not, false}
-use mathlib.Core.List.{List, _++_}
+use mathlib.Core.List.{List}
 use mathlib.Core.Logic.{⊎-elim, _≢_}
 use native.Mathlib.Omega.{arith}
 use borrow.Author.Tests.{ne-eqb}
-use lib.ListN.{length, getD, take, replicate, length-replicate, getD-replicate, List·getD-eq-default}
-use lib.Seq.{take-at, getD-append-add}
+use lib.ListN.{length, getD, take, List·getD-eq-default}
+use lib.Seq.{take-at}
 use Rattle.lists.specs.Rows.{distinct, fresh}
-use Rattle.lists.proofs.Cases.{below-or, same-or, both-true, not-both}
+use Rattle.lists.proofs.Cases.{same-or, both-true, not-both}
 use Rattle.lists.proofs.Rows.{given-none}
 use Rattle.consts.specs.Consts.{endOfChain}
 use Rattle.judge.specs.Judge.{marksOf}
@@ -19,7 +19,7 @@ use Rattle.alloc.specs.Opened.{padded}
 use Rattle.alloc.proofs.Filled.{front-padded, length-marks}
 use Rattle.chain.specs.Steps.{Linked, Unpointed}
 use Rattle.chain.specs.Walk.{lists, walkOf}
-use Rattle.chain.proofs.Chains.{lists-exactly}
+use Rattle.chain.proofs.Chains.{getD-any, lists-exactly}
 use Rattle.hand.specs.Hand.{Chain}
 use Rattle.hand.specs.Fits.{FitsChain}
 use Rattle.moves.specs.Change.{idsOf}
@@ -29,27 +29,12 @@ use Rattle.cfb.specs.Changes.{startPointed, changeRows, changeNo, chainFrom, st
 use Rattle.cfb.specs.declared.State.{State}
 use Rattle.cfb.proofs.Agreed.{agreed-marks}
 use Rattle.cfb.proofs.Ending.{start-none, start-some}
-use Rattle.cfb.proofs.Lying.{lists-chain}
-use Rattle.cfb.proofs.Ready.{agrees, strict-mode, chain-zero, chained, frees, id-below}
-use Rattle.cfb.proofs.Refusing.{padded-front}
+use Rattle.cfb.proofs.Ready.{agrees, strict-mode, chained, frees, id-below, linked}
+use Rattle.cfb.proofs.Refusing.{padded-front, padded-past}
 use Rattle.promises.specs.Tails.{Blank}
 use Rattle.promises.specs.Whole.{Formed, Held, fatHeld}
 use Rattle.promises.proofs.Base.{agreed-formed}
-use Rattle.promises.proofs.Graph.{getD-any, held-length}
-
--- past a list that zeros follow there are zeros
-pub zero-past : (xs : List ℕ) (m i : ℕ) → length xs ≤ i → getD (padded xs m) i 0 ≡ 0
-unfolding padded
-zero-past xs m i h =
-    let here : i ≡ length xs + (i - length xs) = omega arith in
-    ap (λ (j : ℕ). getD (xs ++ replicate (m - length xs) 0) j 0) here ∙ getD-append-add xs (replicate (m - length xs) 0) (i - length xs) 0 ∙ zeros (m - length xs) (i - length xs)
-  where
-    zeros : (n j : ℕ) → getD {A = ℕ} (replicate n 0) j 0 ≡ 0
-    zeros n j =
-        ⊎-elim
-        (λ (l : j < n). getD-replicate n j 0 0 l)
-        (λ (g : n ≤ j). List·getD-eq-default (replicate n 0) 0 (omega (arith, g, length-replicate {A = ℕ} n 0)))
-        (below-or j n)
+use Rattle.promises.proofs.Graph.{held-length}
 
 -- a chain is one from its own first id
 linked-own : (fat ids own : List ℕ) (start : ℕ) → own ≡ ids → Linked fat start ids → Linked fat (getD own 0 endOfChain) own
@@ -65,9 +50,6 @@ module _ (s : State) (img : List ℕ) (t : Tables) (room start : ℕ) where
     abbrev fat : List ℕ
     fat = take (s .sectors) (t .fat)
 
-    walked-linked : Linked fat start (chainIds s t start)
-    walked-linked = lists-exactly _ start _ (chained s img t room start z .few) .0 (lists-chain s img t room start (chain-zero s img t room start z))
-
     -- document 01, 25: no entry is the start
     not-pointed : startPointed s t start ≡ false
     unfolding changeNo changeRows agreedRows walkRows distinct fresh
@@ -80,7 +62,7 @@ module _ (s : State) (img : List ℕ) (t : Tables) (room start : ℕ) where
     }
 
     first-start : 0 < length (chainIds s t start) → getD (chainIds s t start) 0 0 ≡ start
-    first-start p = getD-any (chainIds s t start) 0 0 endOfChain p ∙ walked-linked .first
+    first-start p = getD-any (chainIds s t start) 0 0 endOfChain p ∙ linked s img t room start z .first
 
     start-low : 0 < length (chainIds s t start) → start ≢ endOfChain
     start-low p = omega (arith, first-start p, id-below s img t room start z 0 p, chained s img t room start z .few, chained s img t room start z .count)
@@ -92,7 +74,7 @@ module _ (s : State) (img : List ℕ) (t : Tables) (room start : ℕ) where
     pub held-of : Held (chainFrom s img t room start)
     unfolding chainFrom
     held-of = record {
-      linked = linked-own fat (chainIds s t start) (idsOf (chainFrom s img t room start)) start before-ids walked-linked;
+      linked = linked-own fat (chainIds s t start) (idsOf (chainFrom s img t room start)) start before-ids (linked s img t room start z);
       unpointed = λ p. unpointed-own _ (padded-front (chainIds s t start) room 0 p ∙ first-start p) (start-low p);
     }
 
@@ -112,7 +94,7 @@ module _ (s : State) (img : List ℕ) (t : Tables) (room start : ℕ) where
     unfolding chainFrom
     blank-of i l =
         ap (λ (xs : List ℕ). getD xs i 0) (agreed-marks (s .mode) img (s .used) (s .sectors) (s .free) (s .header) t (agrees s img t room start z))
-        ∙ zero-past (marksOf (s .sectors) fat) (length (t .marks)) i (omega (arith, l, length-marks (s .sectors) fat))
+        ∙ padded-past (marksOf (s .sectors) fat) (length (t .marks)) i (omega (arith, l, length-marks (s .sectors) fat))
 
 -- document 01, Walk: the ids of a held chain are what the walk from its start lists
 pub held-walk : (S R : ℕ) (c : Chain) → FitsChain S R c → Held c → walkOf (fatHeld (c .hand .disk)) (startIn (c .ids) (c .count)) ≡ lists (idsOf c)

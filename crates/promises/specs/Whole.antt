@@ -6,7 +6,7 @@ use lib.ListN.{getD, take}
 use Rattle.consts.specs.Consts.{endOfChain}
 use Rattle.judge.specs.Judge.{marksOf}
 use Rattle.chain.specs.Steps.{Linked, Unpointed}
-use Rattle.agree.specs.Agrees.{FreesOnce}
+use Rattle.points.specs.Frees.{FreesOnce}
 use Rattle.sound.specs.Sound.{WellFormed}
 use Rattle.hand.specs.Hand.{Hand, Chain}
 use Rattle.moves.specs.Change.{idsOf}

@@ -2,7 +2,7 @@
 use Prim.Native.Nat.{ℕ}
 use mathlib.Core.Path.{_≡_, sym, _∙_, ap}
 use native.Mathlib.Omega.{arith}
-use lib.ListN.{length, replicate}
+use lib.ListN.{replicate}
 use Rattle.alloc.specs.Opening.{Tables}
 use Rattle.chain.specs.declared.Walked.the-variants.{Listed}
 use Rattle.cfb.specs.declared.State.{State}

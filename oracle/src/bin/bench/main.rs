@@ -1,6 +1,13 @@
-//! Times the library beside the Rust of cfb, both in one run and in alternation, and prints a table.
+//! Times the library beside the Rust of cfb, both in one run and in alternation.
 //!
-//! What each side does within the time, and what its buffers held before, is printed above the table.
+//!     bench FOLDER        writes FOLDER/tables.md and FOLDER/benchmarks.svg, and prints the tables
+//!
+//! What each side does within the time, and what its buffers held before, is written above the tables.
+
+#[cfg(all(oracle, not(feature = "model")))]
+mod plot;
+#[cfg(all(oracle, not(feature = "model")))]
+mod rows;
 
 use std::process::ExitCode;
 
@@ -12,12 +19,59 @@ fn main() -> ExitCode {
 
 #[cfg(all(oracle, not(feature = "model")))]
 fn main() -> ExitCode {
-    timed::all();
-    ExitCode::SUCCESS
+    let Some(folder) = std::env::args_os().nth(1).map(std::path::PathBuf::from) else {
+        eprintln!("bench: say which folder the tables and the plot go to");
+        return ExitCode::from(2);
+    };
+    let before = load();
+    let rows = timed::all();
+    let tables = format!("{}\n\n{}\n{}", machine(&before), timed::SAID, rows::tables(&rows, &timed::SIZES));
+    println!("{tables}");
+    let plot = plot::svg(&rows, &timed::SIZES);
+    let written = std::fs::create_dir_all(&folder)
+        .and_then(|()| std::fs::write(folder.join("tables.md"), &tables))
+        .and_then(|()| std::fs::write(folder.join("benchmarks.svg"), plot));
+    match written {
+        Ok(()) => ExitCode::SUCCESS,
+        Err(error) => {
+            eprintln!("bench: {}: {error}", folder.display());
+            ExitCode::FAILURE
+        }
+    }
+}
+
+/// How many processes wanted a processor in the last minute, as the system counts.
+#[cfg(all(oracle, not(feature = "model")))]
+fn load() -> String {
+    let text = std::fs::read_to_string("/proc/loadavg").unwrap_or_default();
+    text.split(' ').next().filter(|word| !word.is_empty()).unwrap_or("unknown").to_string()
+}
+
+/// What the times were taken on.
+#[cfg(all(oracle, not(feature = "model")))]
+fn machine(before: &str) -> String {
+    let text = std::fs::read_to_string("/proc/cpuinfo").unwrap_or_default();
+    let model = text.lines().find(|line| line.starts_with("model name")).and_then(|line| line.split(": ").nth(1));
+    let processors = std::thread::available_parallelism().map_or(0, usize::from);
+    let rustc = std::process::Command::new("rustc").arg("--version").output().ok();
+    let rustc = rustc.map_or(String::from("rustc"), |said| String::from_utf8_lossy(&said.stdout).trim().to_string());
+    let rustc: Vec<&str> = rustc.split(' ').take(2).collect();
+    format!(
+        "One run on {} ({processors} processors, {} {}), {}, release build. The load\n\
+         was {before} before the run and {} after it; this run alone is a load of 1. {} rounds each, after {} that are not counted.",
+        model.unwrap_or("a processor without a name"),
+        std::env::consts::OS,
+        std::env::consts::ARCH,
+        rustc.join(" "),
+        load(),
+        timed::ROUNDS,
+        timed::FIRST,
+    )
 }
 
 #[cfg(all(oracle, not(feature = "model")))]
 mod timed {
+    use crate::rows::{grouped, Both, Row};
     use oracle::abi::{self, Answer, Handed, Lent, State, Tables};
     use oracle::asked;
     use oracle::changed::{Change, Holding};
@@ -34,14 +88,22 @@ mod timed {
     use std::time::{Duration, Instant};
 
     /// How often each side is timed, after a few rounds that are not counted.
-    const ROUNDS: usize = 201;
-    const FIRST: usize = 10;
+    pub const ROUNDS: usize = 201;
+    pub const FIRST: usize = 10;
 
-    const SAID: &str = "\
-Times are medians, with the first and the last decile behind them. Both sides are called in alternation, and take turns at
-being first. Everything lent is in memory, and was touched just before. Images are of version 3; all bytes are used; the
-FAT and DIFAT sectors come first, the last eighth of all sectors is FREE, and those between are one chain, in ascending
-order or scattered.
+    /// Sectors of the images.
+    pub const SIZES: [usize; 4] = [128, 1_024, 4_096, 16_384];
+
+    /// Sectors that an image has behind its used ones, for those that are added behind the last.
+    const SPARE: usize = 20;
+
+    /// Bytes that are added to a chain: 16 sectors, as many as are FREE among 128.
+    const ADDED: usize = 16 * 512;
+
+    pub const SAID: &str = "\
+Both sides are called in alternation, and take turns at being first. Everything lent is in memory, and was touched just
+before. Images are of version 3; the FAT and DIFAT sectors come first, the last eighth of all sectors is FREE, and those
+between are one chain, in ascending order or scattered. All bytes are used.
 
 - opening, ours: `rasuvelk_open`, strict. The tables are lent, R elements each, and hold rubbish.
 - opening, the Rust's: `Header::read_from`, the stand-ins' loading of the lists and of the FAT into vectors of its own, and
@@ -51,24 +113,27 @@ order or scattered.
 - agreement: `rasuvelk_open_chain` with the start END: that image, state and tables agree, and no walk. The tables are
   those of the opening, and the id list holds rubbish. The Rust keeps its tables and has no such thing: beside it stands
   its opening.
-- walk, ours: `rasuvelk_open_chain` of the whole chain: the agreement and the ids. The Rust's: `Chain::new`.
-- whole chain, ours: `rasuvelk_read_chain` of the whole chain into a buffer as long as it. The agreement is part of every
+- open chain, ours: `rasuvelk_open_chain` of the whole chain: the agreement and the ids. The Rust's: `Chain::new`.
+- read, ours: `rasuvelk_read_chain` of the whole chain into a buffer as long as it. The agreement is part of every
   call, and the time without it cannot be had.
-- whole chain, the Rust's: `Chain::new` on an allocator that was opened before, and `read` until the buffer is full. A read
+- read, the Rust's: `Chain::new` on an allocator that was opened before, and `read` until the buffer is full. A read
   copies sectors that follow one another at once. The buffers hold rubbish before, on both sides.
 - changes, ours: `rasuvelk_write_chain`, `rasuvelk_resize_chain` or `rasuvelk_free_chain`. The agreement is part of every
   call. Image, state and tables are put back before each call, which is not counted; the id list holds rubbish.
 - changes, the Rust's: `Chain::new` on an allocator over a byte vector, `seek` and `write_all`, or `set_len`, or `free`. A
   copy of the image is opened anew before each, which is not counted.
-- the changes: 512 bytes written over a sector in the middle of the chain; 64 KiB written to its end, which takes 128 FREE
-  sectors; half of its sectors given up, and one byte more; all of them freed.
+- the changes: 512 bytes written over a sector in the middle of the chain; 8 KiB written to its end, which takes 16 FREE
+  sectors; the same in an image of 20 sectors fewer, none of them FREE, where 16 are added behind the last (ours: in spare
+  room of the lent image, which is zeros; the Rust's: its vector grows); half of its sectors given up, and one byte more;
+  all of them freed.
 ";
 
-    /// FAT and DIFAT sectors, one chain, ascending or scattered, and an eighth that is FREE; and where the chain starts.
-    fn layout(n: usize, scattered: bool) -> (Layout, u32) {
+    /// FAT and DIFAT sectors, one chain, ascending or scattered, and some at the end that are FREE; and where the chain
+    /// starts.
+    fn layout(n: usize, free: usize, scattered: bool) -> (Layout, u32) {
         let mut layout = Layout::plain(3, n);
         let first = (layout.fats.len() + layout.difats.len()) as u32;
-        let mut ids: Vec<u32> = (first..(n - n / 8) as u32).collect();
+        let mut ids: Vec<u32> = (first..(n - free) as u32).collect();
         if scattered {
             let mut random = Random::fixed("bench");
             (1..ids.len()).for_each(|i| ids.swap(i, random.below(i + 1)));
@@ -96,19 +161,8 @@ order or scattered.
         taken
     }
 
-    /// The median and the two deciles.
-    fn of(mut times: Vec<Duration>) -> [Duration; 3] {
-        times.sort_unstable();
-        [times.len() / 2, times.len() / 10, times.len() * 9 / 10].map(|at| times[at])
-    }
-
-    fn shown([median, low, high]: [Duration; 3]) -> String {
-        let [median, low, high] = [median, low, high].map(|time| time.as_secs_f64() * 1e6);
-        format!("{median:.1} µs ({low:.1} to {high:.1})")
-    }
-
-    /// Times two in alternation, and prints a line.
-    fn line(what: &str, mut ours: impl FnMut() -> Duration, mut rusts: impl FnMut() -> Duration) {
+    /// Times two in alternation.
+    fn both(mut ours: impl FnMut() -> Duration, mut rusts: impl FnMut() -> Duration) -> Both {
         let (mut first, mut second) = (Vec::new(), Vec::new());
         for round in 0..FIRST + ROUNDS {
             let (one, other) = if round % 2 == 0 {
@@ -119,31 +173,38 @@ order or scattered.
                 (ours(), other)
             };
             if round >= FIRST {
-                first.push(one);
-                second.push(other);
+                first.push(one.as_secs_f64() * 1e6);
+                second.push(other.as_secs_f64() * 1e6);
             }
         }
-        let (first, second) = (of(first), of(second));
-        let ratio = first[0].as_secs_f64() / second[0].as_secs_f64();
-        println!("| {what} | {} | {} | {ratio:.2} |", shown(first), shown(second));
+        Both::of(first, second)
     }
 
     /// An image that is timed, and what the opening gave.
     struct Timed {
         image: Vec<u8>,
+        used: usize,
         start: u32,
         state: State,
         tables: Tables,
     }
 
     impl Timed {
-        fn new(n: usize, scattered: bool) -> Timed {
-            let (layout, start) = layout(n, scattered);
-            let image = bytes(&layout);
-            let mut tables = Tables::zero([n; 5]);
+        /// An image with as many sectors in use and FREE, and as many behind it that are not used.
+        fn new(n: usize, free: usize, spare: usize, scattered: bool) -> Timed {
+            let (layout, start) = layout(n, free, scattered);
+            let mut image = bytes(&layout);
+            let used = image.len();
+            image.resize(used + 512 * spare, 0);
+            let mut tables = Tables::zero([n + spare; 5]);
             let mut state = abi::REFUSED_STATE;
-            assert_eq!(abi::open(&image, image.len(), 1, &mut tables, &mut state), 0);
-            Timed { image, start, state, tables }
+            assert_eq!(abi::open(&image, used, 1, &mut tables, &mut state), 0);
+            Timed { image, used, start, state, tables }
+        }
+
+        /// The bytes in use.
+        fn bytes(&self) -> &[u8] {
+            &self.image[..self.used]
         }
 
         fn lent(&self) -> Lent<'_> {
@@ -154,20 +215,20 @@ order or scattered.
         fn open(&self) -> Duration {
             let mut tables = held::rubbish(self.tables.lengths());
             let mut state = abi::REFUSED_STATE;
-            let taken = time(|| abi::open(&self.image, self.image.len(), 1, &mut tables, &mut state));
+            let taken = time(|| abi::open(&self.image, self.used, 1, &mut tables, &mut state));
             assert!(state == self.state && tables.fat == self.tables.fat);
             taken
         }
 
         /// The Rust's opening.
         fn rusts_open(&self) -> Duration {
-            time(|| image::lend(&self.image, Strict).unwrap())
+            time(|| image::lend(self.bytes(), Strict).unwrap())
         }
 
         /// The Rust's `Allocator::new`.
         fn rusts_checks(&self) -> Duration {
-            let (version, tables) = image::loaded(&self.image, Strict).unwrap();
-            time(|| image::over(&self.image, version, tables, Strict).unwrap())
+            let (version, tables) = image::loaded(self.bytes(), Strict).unwrap();
+            time(|| image::over(self.bytes(), version, tables, Strict).unwrap())
         }
 
         /// The library's opening of an empty chain.
@@ -180,9 +241,9 @@ order or scattered.
             taken
         }
 
-        /// A line with the whole chain read by both, after a look at what they read.
-        fn read(&self, what: &str) {
-            let mut rust = image::lend(&self.image, Strict).unwrap();
+        /// The whole chain read by both, after a look at what they read.
+        fn read(&self) -> Both {
+            let mut rust = image::lend(self.bytes(), Strict).unwrap();
             let chain = asked::open_chain(&mut rust, self.start).unwrap();
             let [mut ours, mut rusts] = [vec![0x11; 512 * chain.len()], vec![0x22; 512 * chain.len()]];
             let mut ids = vec![0; self.tables.fat.len()];
@@ -201,12 +262,12 @@ order or scattered.
                 rusts.fill(0x22);
                 time(|| read_all(&mut rust, self.start, &mut rusts))
             };
-            line(what, read_ours, read_rusts);
+            both(read_ours, read_rusts)
         }
 
-        /// A line with the chain walked by both.
-        fn walk(&self, what: &str) {
-            let mut rust = image::lend(&self.image, Strict).unwrap();
+        /// The chain walked by both.
+        fn walk(&self) -> Both {
+            let mut rust = image::lend(self.bytes(), Strict).unwrap();
             let mut ids = vec![0; self.tables.fat.len()];
             let mut answer = [7; 3];
             let walk_ours = || {
@@ -214,12 +275,12 @@ order or scattered.
                 time(|| abi::open_chain(&self.lent(), &mut ids, self.start, &mut answer))
             };
             let walk_rusts = || time(|| Chain::new(&mut rust, self.start, SectorInit::Zero).unwrap().num_sectors());
-            line(what, walk_ours, walk_rusts);
+            both(walk_ours, walk_rusts)
         }
 
         /// The bytes of the chain.
         fn length(&self) -> u64 {
-            let mut rust = image::lend(&self.image, Strict).unwrap();
+            let mut rust = image::lend(self.bytes(), Strict).unwrap();
             512 * asked::open_chain(&mut rust, self.start).unwrap().len() as u64
         }
 
@@ -235,12 +296,12 @@ order or scattered.
             holding.tables.clone_from(&self.tables);
         }
 
-        /// A line with a change made by both, after a look at what they make of it.
-        fn change(&self, what: &str, change: &Change) {
+        /// A change made by both, after a look at what they make of it.
+        fn change(&self, change: &Change) -> Both {
             let mut held = self.holding();
             let mut ids = vec![0; self.tables.fat.len()];
             let mut answer = [7; 3];
-            let mut rust = image::open(self.image.clone(), Strict).unwrap();
+            let mut rust = image::open(self.bytes().to_vec(), Strict).unwrap();
             assert_eq!(change_ours(&mut held, &mut ids, self.start, change, &mut answer), 0);
             assert_eq!(change_rusts(&mut rust, self.start, change) as u64, answer[0]);
             assert!(held.used() == image::bytes_of(&rust));
@@ -251,19 +312,10 @@ order or scattered.
                 time(|| change_ours(&mut held, &mut ids, self.start, change, &mut answer))
             };
             let rusts = || {
-                let mut rust = image::open(self.image.clone(), Strict).unwrap();
+                let mut rust = image::open(self.bytes().to_vec(), Strict).unwrap();
                 time(|| change_rusts(&mut rust, self.start, change))
             };
-            line(what, ours, rusts);
-        }
-
-        /// A line for each change.
-        fn changes(&self, what: impl Fn(&str) -> String) {
-            let half = self.length() / 1024 * 512;
-            self.change(&what("one sector written over"), &Change::Write(half, buffer(512)));
-            self.change(&what("64 KiB written to the end"), &Change::Write(self.length(), buffer(65_536)));
-            self.change(&what("resized to the half"), &Change::Resize(half + 1));
-            self.change(&what("freed"), &Change::Free);
+            both(ours, rusts)
         }
     }
 
@@ -305,21 +357,34 @@ order or scattered.
         done
     }
 
-    pub fn all() {
-        println!("{SAID}");
-        println!("{ROUNDS} rounds after {FIRST} that are not counted. A ratio above 1: ours takes longer.\n");
-        println!("| what | ours | the Rust's | ratio |\n|---|---|---|---|");
-        for n in [4_096, 16_384] {
+    /// Everything that is timed, at one size and in one order.
+    fn at(n: usize, scattered: bool) -> Vec<(&'static str, Both)> {
+        let timed = Timed::new(n, n / 8, 0, scattered);
+        let full = Timed::new(n - SPARE, 0, SPARE, scattered);
+        let half = timed.length() / 1024 * 512;
+        vec![
+            ("opening", both(|| timed.open(), || timed.rusts_open())),
+            ("opening; the Rust's checks alone", both(|| timed.open(), || timed.rusts_checks())),
+            ("agreement; the Rust's opening", both(|| timed.agree(), || timed.rusts_open())),
+            ("open chain", timed.walk()),
+            ("read a whole chain", timed.read()),
+            ("write over one sector", timed.change(&Change::Write(half, buffer(512)))),
+            ("append 8 KiB in FREE sectors", timed.change(&Change::Write(timed.length(), buffer(ADDED)))),
+            ("append 8 KiB behind the last sector", full.change(&Change::Write(full.length(), buffer(ADDED)))),
+            ("resize to the half", timed.change(&Change::Resize(half + 1))),
+            ("free", timed.change(&Change::Free)),
+        ]
+    }
+
+    pub fn all() -> Vec<Row> {
+        let mut rows = Vec::new();
+        for n in SIZES {
             for (scattered, order) in [(false, "ascending"), (true, "scattered")] {
-                let timed = Timed::new(n, scattered);
-                let what = |part: &str| format!("{part}, {n} sectors, {order}");
-                line(&what("opening"), || timed.open(), || timed.rusts_open());
-                line(&what("opening; the Rust's checks alone"), || timed.open(), || timed.rusts_checks());
-                line(&what("agreement; the Rust's opening"), || timed.agree(), || timed.rusts_open());
-                timed.walk(&what("walk, with the agreement"));
-                timed.read(&what("whole chain, with the agreement"));
-                timed.changes(|part| what(&format!("{part}, with the agreement")));
+                eprintln!("bench: {} sectors, {order}", grouped(n));
+                let timed = at(n, scattered).into_iter();
+                rows.extend(timed.map(|(what, both)| Row { what, order, n, both }));
             }
         }
+        rows
     }
 }
