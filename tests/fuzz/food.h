@@ -37,7 +37,7 @@ static uint32_t bad_number(size_t n)
     switch (below(4)) {
     case 0: return kinds[below(sizeof kinds / sizeof kinds[0])];
     case 1: return (uint32_t)(n - 2 + below(5));
-    case 2: return (uint32_t)below(n + 1);
+    case 2: return (uint32_t)below(n < MOST ? n + 1 : MOST);
     default: return once_in(2) ? (uint32_t)1 << below(32) : (uint32_t)next();
     }
 }

@@ -38,6 +38,20 @@ static void no_end(int signal_number)
     _exit(1);
 }
 
+/* What a sanitizer has against this program is told with its case too. */
+const char *__ubsan_default_options(void);
+const char *__ubsan_default_options(void)
+{
+    return "abort_on_error=1:print_stacktrace=1";
+}
+
+static void aborted(int signal_number)
+{
+    (void)signal_number;
+    where();
+    _exit(1);
+}
+
 #define CHECK(condition, ...)                                                                                          \
     do {                                                                                                               \
         if (!(condition)) {                                                                                            \
@@ -835,6 +849,7 @@ int main(int argc, char **argv)
     setvbuf(stdout, NULL, _IOLBF, 0);
     __sanitizer_set_death_callback(where);
     signal(SIGALRM, no_end);
+    signal(SIGABRT, aborted);
     clock_gettime(CLOCK_MONOTONIC, &start);
     for (cases = first; cases < count; cases++) {
         if (cases % 64 == 0 || first > 0) {
