@@ -18,8 +18,8 @@ use Rattle.moves.proofs.Changing.{resized-more, resized-fewer, resize-shrink}
 use Rattle.cfb.specs.Calls.{stateLen, chainIds}
 use Rattle.cfb.specs.Changes.{resizeNo, chainFrom}
 use Rattle.cfb.specs.declared.State.{State}
-use Rattle.cfb.proofs.Refusing.{padded-past}
 use Rattle.promises.proofs.Calls.{resize-fits}
+use Rattle.cfb.proofs.Refusing.{padded-past}
 
 -- zeros stand behind the ids of a chain in hand
 abbrev pub Cleared : Chain → Type 0

@@ -7,20 +7,25 @@ use native.Mathlib.Omega.{arith}
 use lib.ListN.{length, getD, take}
 use lib.Seq.{getD-take, length-take-le}
 use Rattle.lists.proofs.Cases.{below-or}
-use Rattle.consts.specs.Consts.{freeSector}
-use Rattle.fat.specs.Lists.{ceil}
+use Rattle.consts.specs.Consts.{endOfChain, freeSector}
+use Rattle.fat.specs.Lists.{ceil, roomOf}
 use Rattle.alloc.specs.Opening.{Tables}
 use Rattle.disk.specs.Needed.{resizeMore, writeMore}
+use Rattle.chain.specs.Walk.{Outcome, lists, refuses}
+use Rattle.chain.proofs.Chains.{getD-any, lists-exactly}
 use Rattle.hand.specs.Hand.{Chain}
+use Rattle.hand.specs.Fits.{FitsChain}
 use Rattle.moves.specs.Change.{withImage, resized, written, FitsResize, FitsWrite}
 use Rattle.moves.proofs.Shrinking.{shrink-free}
 use Rattle.moves.proofs.Changing.{resized-more, resized-fewer, resize-shrink, resized-fits, resized-count, written-count}
 use Rattle.edits.proofs.Edits.{ids-stay, ids-kept, resized-freed}
-use Rattle.cfb.specs.Calls.{stateLen, chainIds}
-use Rattle.cfb.specs.Changes.{resizeNo, writeNo, chainFrom}
+use Rattle.cfb.specs.Calls.{stateLen, walked, outcomeIds, chainIds}
+use Rattle.cfb.specs.Changes.{changeNo, resizeNo, writeNo, chainFrom}
 use Rattle.cfb.specs.declared.State.{State}
 use Rattle.cfb.proofs.Refusing.{padded-front}
 use Rattle.promises.specs.Whole.{Formed, fatHeld}
+use Rattle.promises.proofs.Base.{roles-of}
+use Rattle.promises.proofs.Graph.{held-length}
 use Rattle.promises.proofs.Calls.{resize-fits, resize-forms, write-fits}
 
 -- document 01, Resize: the chain keeps its first sectors, as many as it has before and after
