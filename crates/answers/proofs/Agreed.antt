@@ -20,7 +20,7 @@ use Rattle.header.specs.declared.Header.{Header}
 use Rattle.header.specs.declared.Read.{Read}
 use Rattle.header.specs.declared.WriteVerdict.{WriteVerdict}
 use Rattle.records.specs.Records.{lengthIn, numberIn, modeIn, numbersIn, headerIn}
-use Rattle.answers.specs.Answers.{headerLeft, before, after, ReadAgrees, WriteAgrees, ListedAs, ListAgrees}
+use Rattle.answers.specs.Answers.{before, after, ReadAgrees, WriteAgrees, ListedAs, ListAgrees}
 
 -- the bytes from o to the end o + k are a part
 pub part-between : (b : List ℕ) (o k : ℕ) → take (o + k - o) (drop o b) ≡ part b o k
@@ -36,7 +36,6 @@ version-at number e f k = cc
 -- a reading that gave the number and the header of the record
 pub read-agrees : (b : List ℕ) {v : Version} {m : Validation} {s : List ℕ} {r : Read} {len no : ℕ} → numberedOf (le 4 b 552) ≡ Known v → len ≡ lengthIn b → m ≡ modeIn b
     → s ≡ part b 8 len → ReadSays s m r → readNumber (r .verdict) ≡ no → no ≡ numberIn b → r .header ≡ headerIn v (part b 552 468) → ReadAgrees b
-unfolding headerLeft
 read-agrees b {v} {r = r} named l e f says n k h =
     let right : ReadSays (part b 8 (lengthIn b)) (modeIn b) r = rw (← l, ← e, ← f) says in
     record { version = v; named = named; number = sym (right .number) ∙ n ∙ k; words = sym (right .header) ∙ h }

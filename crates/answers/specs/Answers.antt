@@ -10,17 +10,12 @@ use Rattle.consts.specs.Pretty.{prettifyOf}
 use Rattle.consts.specs.Text.{textOf}
 use Rattle.consts.specs.declared.Sector.{Sector}
 use Rattle.header.specs.Versions.{numberedOf}
-use Rattle.header.specs.Read.{readNo, headerOf, none}
+use Rattle.header.specs.Read.{readNo, headerLeft}
 use Rattle.header.specs.Write.{writeNo, headerBytes}
 use Rattle.header.specs.declared.Version.{Version}
 use Rattle.header.specs.declared.Numbered.the-variants.{Known}
-use Rattle.header.specs.declared.Validation.{Validation}
 use Rattle.header.specs.declared.Header.{Header}
 use Rattle.records.specs.Records.{lengthIn, numberIn, modeIn, numbersIn, headerIn}
-
--- the header that a reading leaves
-unfoldable pub headerLeft : Validation → List ℕ → Header
-headerLeft m s = choose (eqb (readNo m s) 0) (headerOf s) none
 
 -- the reader gives the number and the words of the record
 pub record ReadAgrees (b : List ℕ) : Type 0 where

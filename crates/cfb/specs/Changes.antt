@@ -87,16 +87,13 @@ chainFrom s img t room start =
       count = length (chainIds s t start);
     }
 
--- document 01: the state after a change: its header is read anew from the bytes, its numbers are those in hand
+-- document 01: the state after a change that leaves so many sectors, so many of them FREE: its header is read anew from the bytes
+abbrev pub stateWith : State → ℕ → ℕ → List ℕ → State
+stateWith s sectors free img = record { mode = s .mode; used = (sectors + 1) * stateLen s; sectors = sectors; free = free; header = headerOf img }
+
+-- that of a chain in hand
 unfoldable pub stateFrom : State → Chain → State
-stateFrom s c =
-    record {
-      mode = s .mode;
-      used = (c .hand .disk .sectors + 1) * stateLen s;
-      sectors = c .hand .disk .sectors;
-      free = c .hand .free;
-      header = headerOf (c .hand .disk .image);
-    }
+stateFrom s c = stateWith s (c .hand .disk .sectors) (c .hand .free) (c .hand .disk .image)
 
 -- the lent tables of a chain in hand
 unfoldable pub tablesIn : Chain → Tables
@@ -149,7 +146,4 @@ pub record Judged (k : ℕ) (ids chain : List ℕ) (r : Walked) (ids' : List ℕ
 unfoldable pub doneWith : State → List ℕ → List ℕ → Changed → ℕ → Called
 unfolding startIn
 doneWith s img ids c bytes =
-    record {
-      answer = Done (c .ids) (startIn ids (c .ids)) bytes;
-      state = record { mode = s .mode; used = (c .sectors + 1) * stateLen s; sectors = c .sectors; free = c .free; header = headerOf img };
-    }
+    record { answer = Done (c .ids) (startIn ids (c .ids)) bytes; state = stateWith s (c .sectors) (c .free) img }

@@ -36,17 +36,14 @@ unfolding splice entryPlace
 setFat S d i v =
     record { image = splice (d .image) (entryPlace S (d .fats) i) (digits 4 v); fat = set (d .fat) i v; fats = d .fats; difats = d .difats; sectors = d .sectors }
 
+-- the same with one sector more
+abbrev pub counted : Disk → Disk
+counted d = record { image = d .image; fat = d .fat; fats = d .fats; difats = d .difats; sectors = suc (d .sectors) }
+
 -- there is one sector more, and its entry is v
 unfoldable pub pushFat : ℕ → Disk → ℕ → Disk
-unfolding splice entryPlace
-pushFat S d v =
-    record {
-      image = splice (d .image) (entryPlace S (d .fats) (d .sectors)) (digits 4 v);
-      fat = set (d .fat) (d .sectors) v;
-      fats = d .fats;
-      difats = d .difats;
-      sectors = suc (d .sectors);
-    }
+unfolding setFat
+pushFat S d v = counted (setFat S d (d .sectors) v)
 
 -- id is the k-th of the FAT's sectors, in the table
 unfoldable pub listFat : Disk → ℕ → ℕ → Disk

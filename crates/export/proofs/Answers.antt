@@ -11,7 +11,7 @@ use lib.ListN.{length, getD}
 use Rattle.lists.specs.Lists.{choose, both, splice}
 use Rattle.lists.proofs.Cases.{same-or}
 use Rattle.header.specs.Versions.{numberedOf, versionOf}
-use Rattle.header.specs.Read.{unknown, readNumber, readNo, ReadSays}
+use Rattle.header.specs.Read.{unknown, readNumber, readNo, ReadSays, headerLeft}
 use Rattle.header.specs.Write.{writeNumber, writeNo, headerBytes, WriteSays}
 use Rattle.header.specs.declared.Version.{Version}
 use Rattle.header.specs.declared.Version.the-variants.{V3, V4}
@@ -25,7 +25,7 @@ use Rattle.alloc.specs.Opening.{Tables}
 use Rattle.cfb.specs.Face.{numberOf, Opens}
 use Rattle.cfb.specs.declared.Opened.{Opened}
 use Rattle.cfb.proofs.Facing.{verdict-number}
-use Rattle.layout.specs.Layout.{modeOf, headerWith, headerFrom, headerLeft, writtenNo, bytesLeft}
+use Rattle.layout.specs.Layout.{modeOf, headerWith, headerFrom, writtenNo, bytesLeft}
 use Rattle.layout.specs.States.{stateWords}
 use Rattle.export.specs.Opening.{OpenGives}
 
@@ -35,7 +35,6 @@ reading-number {b} says e = says .number ∙ ap (λ (k : Validation). readNo k b
 
 -- the header that a reading leaves, in a mode that is named another way
 pub reading-header : {b : List ℕ} {m n : Validation} {r : Read} → ReadSays b m r → m ≡ n → r .header ≡ headerLeft n b
-unfolding headerLeft
 reading-header {b} says e = says .header ∙ ap (λ (k : Validation). headerLeft k b) e
 
 -- both tests fail where no version is named

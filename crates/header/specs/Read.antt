@@ -106,7 +106,11 @@ headerOf b =
 unfoldable pub none : Header
 none = record { version = V3; dirs = 0; fats = 0; dir = 0; minifat = 0; minifats = 0; difat = 0; difats = 0; list = replicate 109 0 }
 
+-- document 01: the header that a reading leaves: the content, or what stands beside a refusal
+abbrev pub headerLeft : Validation → List ℕ → Header
+headerLeft m b = choose (eqb (readNo m b) 0) (headerOf b) none
+
 -- what the reader says of b: document 01's number, and the header beside it
 pub record ReadSays (b : List ℕ) (m : Validation) (r : Read) : Type 0 where
   pub number : readNumber (r .verdict) ≡ readNo m b
-  pub header : r .header ≡ choose (eqb (readNo m b) 0) (headerOf b) none
+  pub header : r .header ≡ headerLeft m b

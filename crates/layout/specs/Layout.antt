@@ -5,7 +5,7 @@ use lib.Dec.{eqb}
 use lib.ListN.{length, getD, drop}
 use Rattle.lists.specs.Lists.{choose, splice}
 use Rattle.header.specs.Versions.{majorOf, versionOf}
-use Rattle.header.specs.Read.{unknown, readNo, headerOf, none}
+use Rattle.header.specs.Read.{unknown}
 use Rattle.header.specs.Write.{writeNo, headerBytes}
 use Rattle.header.specs.declared.Version.{Version}
 use Rattle.header.specs.declared.Validation.{Validation}
@@ -40,10 +40,6 @@ headerWith v words =
 unfoldable pub headerFrom : List ℕ → Header
 unfolding headerWith
 headerFrom words = headerWith (versionOf (getD words 0 0)) words
-
--- the header that a reading leaves: the content, or what stands beside a refusal
-unfoldable pub headerLeft : Validation → List ℕ → Header
-headerLeft m b = choose (eqb (readNo m b) 0) (headerOf b) none
 
 -- the number that a writing of words into n lent bytes ends with: 4 for no version, before the writer's own
 unfoldable pub writtenNo : List ℕ → ℕ → ℕ
