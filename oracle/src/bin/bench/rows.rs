@@ -108,7 +108,7 @@ fn table(rows: &[Row], sizes: &[usize], cell: impl Fn(&Row) -> String) -> String
     text
 }
 
-/// How often as long each kind takes at a size as at the size before.
+/// How often as long each kind takes at a size as at the size before, by the first decile.
 fn growth(rows: &[Row], sizes: &[usize]) -> String {
     let mut text = String::from("| what | order |");
     for two in sizes.windows(2) {
@@ -120,8 +120,8 @@ fn growth(rows: &[Row], sizes: &[usize]) -> String {
         let of = |n| rows.iter().find(|row| (row.what, row.order, row.n) == (what, order, n));
         for two in sizes.windows(2) {
             if let (Some(small), Some(large)) = (of(two[0]), of(two[1])) {
-                let ours = large.ours().median / small.ours().median;
-                let rusts = large.rusts().median / small.rusts().median;
+                let ours = large.ours().low / small.ours().low;
+                let rusts = large.rusts().low / small.rusts().low;
                 write!(text, " {ours:.1} / {rusts:.1} |").unwrap();
             } else {
                 text.push_str(" |");
@@ -146,7 +146,8 @@ pub fn tables(rows: &[Row], sizes: &[usize]) -> String {
         "Medians in microseconds, ours / the Rust's, by the number of sectors; behind them the **ratio**, which is the median\n\
          of each round's own. Above 1 ours takes longer.\n\n{medians}\n\
          The spread: the first to the last decile of the same.\n\n{spreads}\n\
-         How the medians grow: how often as long as at the size before, ours / the Rust's.\n\n{}",
+         How times grow, by the first decile, which changes of the processor's speed touch least: how often as long as at the\n\
+         size before, ours / the Rust's.\n\n{}",
         growth(rows, sizes)
     )
 }
