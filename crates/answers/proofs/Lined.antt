@@ -11,11 +11,11 @@ use Rattle.lists.specs.Lists.{part, sameList}
 use Rattle.lists.proofs.Cases.{below-or}
 use Rattle.lists.proofs.Splice.{sameList-true}
 use Rattle.consts.specs.Pretty.{prettifyOf, itemAt}
-use Rattle.consts.specs.Text.{textOf, written}
+use Rattle.texts.specs.Text.{textOf, written}
 use Rattle.consts.specs.declared.Sector.{Sector}
 use Rattle.consts.specs.declared.Item.{Item}
 use Rattle.consts.specs.declared.Item.the-variants.{Next}
-use Rattle.consts.specs.declared.Text.{Text}
+use Rattle.texts.specs.declared.Text.{Text}
 use Rattle.consts.proofs.Listing.{Stands, item-stands}
 use Rattle.answers.specs.declared.Line.the-variants.{Past, Other}
 use Rattle.answers.specs.Answers.{LineAt, Lines, ListedAs}

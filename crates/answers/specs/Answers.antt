@@ -7,7 +7,7 @@ use lib.ListN.{length, getD, take}
 use Rattle.lists.specs.Lists.{choose, tab, part, splice}
 use Rattle.words.specs.Words.{le}
 use Rattle.consts.specs.Pretty.{prettifyOf}
-use Rattle.consts.specs.Text.{textOf}
+use Rattle.texts.specs.Text.{textOf}
 use Rattle.consts.specs.declared.Sector.{Sector}
 use Rattle.header.specs.Versions.{numberedOf}
 use Rattle.header.specs.Read.{readNo, headerLeft}

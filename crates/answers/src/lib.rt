@@ -138,7 +138,7 @@ fn same_items(sectors: &[u32], held: &[u8], number: u32) -> bool
         let Item::Next(s, next) = item else {
             return false;
         };
-        let text = consts::text_of(s);
+        let text = texts::text_of(s);
         let bytes = text.bytes;
         let line = line_at(held, past, bytes, text.len);
         let Line::Past(end) = line else {

@@ -1,9 +1,6 @@
-pub mod Decimal
 pub mod Examples
 pub mod Items
 pub mod Listing
 pub mod Meaning
-pub mod Puts
 pub mod Runs
 pub mod Sound
-pub mod Texts

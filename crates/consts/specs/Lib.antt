@@ -2,4 +2,3 @@ pub mod Consts
 pub mod Kinds
 pub mod Pretty
 pub mod Runs
-pub mod Text

@@ -5,12 +5,12 @@ use mathlib.Core.List.{[], _∷_}
 use mathlib.Core.Logic.{_≢_}
 use borrow.Author.Tests.{le-leb, lt-leb, ne-eqb}
 use Rattle.consts.specs.Consts.{freeSector}
-use Rattle.consts.specs.Text.{textOf, written}
+use Rattle.texts.specs.Text.{textOf, written}
 use Rattle.consts.specs.declared.Sector.{Sector}
 use Rattle.consts.specs.declared.Sector.the-variants.{Range}
 use Rattle.consts.specs.declared.Item.{Item}
 use Rattle.consts.specs.declared.Item.the-variants.{Next}
-use Rattle.consts.specs.declared.Text.{Text}
+use Rattle.texts.specs.declared.Text.{Text}
 use Rattle.layout.specs.declared.items.Named.{Named}
 use Rattle.layout.specs.declared.items.Named.the-variants.{Known, Unknown}
 use Rattle.layout.specs.Items.{sectorFirst, sectorLast, itemNumbers, namedRange, namedOf, namedText}

@@ -4,7 +4,7 @@ use mathlib.Core.List.{List, [], _∷_}
 use lib.Dec.{eqb, leb}
 use Rattle.lists.specs.Lists.{choose, both}
 use Rattle.consts.specs.Consts.{freeSector}
-use Rattle.consts.specs.Text.{textOf, written}
+use Rattle.texts.specs.Text.{textOf, written}
 use Rattle.consts.specs.declared.Kind.{Kind}
 use Rattle.consts.specs.declared.Kind.the-variants.{Regular, Reserved}
 use Rattle.consts.specs.declared.Kind.the-variants as kinds
@@ -12,7 +12,7 @@ use Rattle.consts.specs.declared.Sector.{Sector}
 use Rattle.consts.specs.declared.Sector.the-variants.{Free, End, Fat, Difat, Range}
 use Rattle.consts.specs.declared.Item.{Item}
 use Rattle.consts.specs.declared.Item.the-variants.{Next, Done}
-use Rattle.consts.specs.declared.Text.{Text}
+use Rattle.texts.specs.declared.Text.{Text}
 use Rattle.layout.specs.declared.items.Named.{Named}
 use Rattle.layout.specs.declared.items.Named.the-variants.{Known, Unknown}
 

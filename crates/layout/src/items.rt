@@ -2,7 +2,7 @@
 use consts::Item;
 use consts::Kind;
 use consts::Sector;
-use consts::Text;
+use texts::Text;
 ghost use mathlib.Core.Path.{_≡_};
 ghost use Rattle.layout.specs.Items.{kindNumber, sectorNumber, sectorFirst, sectorLast, itemNumber, itemNumbers, namedRange, namedOf, namedText};
 
@@ -117,7 +117,7 @@ pub fn named_text(asked: Named) -> Text
     ensures { λ r. ⌜ r ≡ namedText asked ⌝ }
 {
     match asked {
-        Named::Known(s) => consts::text_of(s),
+        Named::Known(s) => texts::text_of(s),
         Named::Unknown => Text {
             bytes: [0u8; 32],
             len: 0,

@@ -7,12 +7,12 @@ use lib.ListN.{length, length-append, length-replicate}
 use Rattle.lists.specs.Lists.{Below}
 use Rattle.lists.proofs.Tab.{length-tab}
 use Rattle.consts.specs.Pretty.{prettifyOf}
-use Rattle.consts.specs.Text.{textOf}
+use Rattle.texts.specs.Text.{textOf}
 use Rattle.consts.specs.declared.Sector.{Sector}
 use Rattle.consts.specs.declared.Sector.the-variants.{Free, End, Fat, Difat, Range}
-use Rattle.consts.proofs.Decimal.{decimal-of-usize}
+use Rattle.texts.proofs.Decimal.{decimal-of-usize}
 use Rattle.consts.proofs.Sound.{Sound, prettify-sound, entriesOf, prettify-keeps-entries}
-use Rattle.consts.proofs.Texts.{Held, text-fits}
+use Rattle.texts.proofs.Texts.{Held, text-fits}
 use Rattle.lines.specs.Lines.{lineOf, linesOf, counted, sectorsWord, freeWord, refusedWord, countsLine, refusedLine}
 use Rattle.lines.proofs.Puts.{line-length, counted-length, counts-length, refused-length}
 

@@ -10,14 +10,14 @@ use lib.Seq.{take-at}
 use Rattle.lists.specs.Lists.{splice, part}
 use Rattle.lists.proofs.Splice.{length-part, length-splice, splice-nil, splice-whole, putMid-splice}
 use Rattle.consts.specs.Pretty.{prettifyOf, itemAt}
-use Rattle.consts.specs.Text.{textOf, decimalOf, written, Put}
+use Rattle.texts.specs.Text.{textOf, decimalOf, written, Put}
 use Rattle.consts.specs.declared.Sector.{Sector}
-use Rattle.consts.specs.declared.Text.{Text}
+use Rattle.texts.specs.declared.Text.{Text}
 use Rattle.consts.specs.declared.Item.{Item}
 use Rattle.consts.specs.declared.Item.the-variants.{Next, Done}
 use Rattle.consts.proofs.Items.{item-past}
 use Rattle.consts.proofs.Listing.{Stands, item-stands, item-done}
-use Rattle.consts.proofs.Puts.{put-after}
+use Rattle.texts.proofs.Puts.{put-after}
 use Rattle.lines.specs.Lines.{lineOf, linesOf, counted, sectorsWord, freeWord, refusedWord, countsLine, refusedLine, listed}
 
 -- a word that is copied over a lent part is put there

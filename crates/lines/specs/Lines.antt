@@ -2,7 +2,7 @@
 use Prim.Native.Nat.{ℕ}
 use mathlib.Core.List.{List, [], _∷_, _++_}
 use Rattle.consts.specs.Pretty.{prettifyOf}
-use Rattle.consts.specs.Text.{decimalOf, textOf}
+use Rattle.texts.specs.Text.{decimalOf, textOf}
 use Rattle.consts.specs.declared.Sector.{Sector}
 
 -- document 01, "one item a line": the text of an item and a line feed

@@ -4,7 +4,7 @@ use consts::Sector;
 ghost use Prim.Native.Nat.{_+_, _*_, _≤_};
 ghost use lib.ListN.{length};
 ghost use Rattle.consts.specs.Pretty.{prettifyOf};
-ghost use Rattle.consts.specs.Text.{decimalOf, Put};
+ghost use Rattle.texts.specs.Text.{decimalOf, Put};
 ghost use Rattle.lines.specs.Lines.{counted, lineOf, linesOf, countsLine, refusedLine, listed};
 
 // Puts `word` at `at` and gives the place past it.
@@ -22,7 +22,7 @@ fn put_number(out: &mut [u8], at: usize, n: usize) -> usize
     requires { ⌜ at + length (decimalOf n) ≤ length (now out) ⌝ }
     ensures { λ r. ⌜ Put (now (out .entry)) at (decimalOf n) r (now (out .exit)) ⌝ }
 {
-    let digits = consts::digits_of(n);
+    let digits = texts::digits_of(n);
     let bytes = digits.bytes;
     let len = digits.len;
     put_word(out, at, &bytes[..len])
@@ -42,7 +42,7 @@ fn put_item(out: &mut [u8], at: usize, s: Sector) -> usize
     requires { ⌜ at + length (lineOf s) ≤ length (now out) ⌝ }
     ensures { λ r. ⌜ Put (now (out .entry)) at (lineOf s) r (now (out .exit)) ⌝ }
 {
-    let text = consts::text_of(s);
+    let text = texts::text_of(s);
     let bytes = text.bytes;
     let len = text.len;
     let past = put_word(out, at, &bytes[..len]);

@@ -8,7 +8,7 @@ use lib.ListN.{length, take, drop, replicate, length-append}
 use lib.Seq.{take-at}
 use Rattle.lists.specs.Lists.{splice}
 use Rattle.lists.proofs.Tab.{length-tab}
-use Rattle.consts.specs.Text.{Put}
+use Rattle.texts.specs.Text.{Put}
 use Rattle.header.specs.Versions.{lengthOf}
 use Rattle.header.specs.Read.{headerOf}
 use Rattle.header.specs.declared.Version.{Version}

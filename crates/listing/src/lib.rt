@@ -6,7 +6,7 @@ use lines::put_listed;
 use lines::put_refused;
 ghost use Prim.Native.Nat.{_≤_};
 ghost use lib.ListN.{length};
-ghost use Rattle.consts.specs.Text.{Put};
+ghost use Rattle.texts.specs.Text.{Put};
 ghost use Rattle.listing.specs.Listing.{listing};
 ghost use Rattle.listing.specs.Verdict.{FatOpened};
 

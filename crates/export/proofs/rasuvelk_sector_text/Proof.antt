@@ -1,6 +1,6 @@
 -- `rasuvelk_sector_text` meets its contract: the text of the item that the numbers name. Assumes nothing.
 use mathlib.Core.Path.{_∙_, ap}
-use Rattle.consts.specs.declared.Text.{Text}
+use Rattle.texts.specs.declared.Text.{Text}
 use Rattle.layout.specs.Items.{namedText}
 use borrow.Author.Needs.{needs}
 use Rattle.export.proofs.rasuvelk_sector_text.Statement.{statement}

@@ -2,8 +2,8 @@
 use Prim.Native.Nat.{_≤_}
 use native.Mathlib.Omega.{arith}
 use lib.ListN.{length}
-use Rattle.consts.specs.Text.{decimalOf}
-use Rattle.consts.proofs.Decimal.{decimal-of-usize}
+use Rattle.texts.specs.Text.{decimalOf}
+use Rattle.texts.proofs.Decimal.{decimal-of-usize}
 use Rattle.lines.proofs.Puts.{counted-put}
 use borrow.Author.Needs.{needs}
 use Rattle.lines.proofs.put_counted.Statement.{statement}

@@ -1,5 +1,5 @@
 -- `items::named_text` meets its contract: `text_of` gives the text of a known item, and no item has 32 zeros. Assumes nothing.
-use Rattle.consts.specs.Text.{written}
+use Rattle.texts.specs.Text.{written}
 use Rattle.layout.proofs.Naming.{text-of-known, text-of-unknown}
 use borrow.Author.Needs.{needs}
 use Rattle.layout.proofs.items.named_text.Statement.{statement}

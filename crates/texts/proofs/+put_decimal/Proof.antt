@@ -4,13 +4,13 @@ use native.Mathlib.Omega.{arith}
 use borrow.Fn.Kinds.{In}
 use borrow.Fn.PlainCycle.{Measures, is, falls, and}
 use lib.ListN.{length-set}
-use Rattle.consts.proofs.Decimal.{decimal-length-one, decimal-length-more}
-use Rattle.consts.proofs.Texts.{put-digit, put-digits}
-use Rattle.consts.proofs.put_decimal.Reads as reads
-use Rattle.consts.proofs.put_decimal.Kinds as kinds
-use Rattle.consts.proofs.+put_decimal.Lts-put_decimal as lts
-use Rattle.consts.proofs.+put_decimal.{statement}
-use Rattle.consts.proofs.+put_decimal.Tie.{close}
+use Rattle.texts.proofs.Decimal.{decimal-length-one, decimal-length-more}
+use Rattle.texts.proofs.Texts.{put-digit, put-digits}
+use Rattle.texts.proofs.put_decimal.Reads as reads
+use Rattle.texts.proofs.put_decimal.Kinds as kinds
+use Rattle.texts.proofs.+put_decimal.Lts-put_decimal as lts
+use Rattle.texts.proofs.+put_decimal.{statement}
+use Rattle.texts.proofs.+put_decimal.Tie.{close}
 
 abbrev μ : Measures 1 kinds.ps ℕ
 μ κs a = a .1 .1 .0

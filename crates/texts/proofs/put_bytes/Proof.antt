@@ -2,9 +2,9 @@
 use Prim.Native.Nat.{_-_}
 use native.Mathlib.Omega.{arith}
 use lib.ListN.{length}
-use Rattle.consts.proofs.Puts.{Putting, putting-begun, putting-on, putting-over}
-use Rattle.consts.proofs.put_bytes.Statement.{statement}
-use Rattle.consts.proofs.put_bytes.Tie as tie
+use Rattle.texts.proofs.Puts.{Putting, putting-begun, putting-on, putting-over}
+use Rattle.texts.proofs.put_bytes.Statement.{statement}
+use Rattle.texts.proofs.put_bytes.Tie as tie
 
 abbrev Inv-loop : tie.InvT-loop
 Inv-loop buf₀ at word i₀ buf i = Putting buf₀ at word i buf

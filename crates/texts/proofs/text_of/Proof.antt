@@ -1,8 +1,8 @@
--- `consts::text_of` meets its contract: the text stands at the front of 32 zeros. Assumes nothing.
-use Rattle.consts.proofs.Texts.{put-written}
+-- `texts::text_of` meets its contract: the text stands at the front of 32 zeros. Assumes nothing.
+use Rattle.texts.proofs.Texts.{put-written}
 use borrow.Author.Needs.{needs}
-use Rattle.consts.proofs.text_of.Statement.{statement}
-use Rattle.consts.proofs.text_of.Tie as tie
+use Rattle.texts.proofs.text_of.Statement.{statement}
+use Rattle.texts.proofs.text_of.Tie as tie
 
 slice-aggregate-put-sector : tie.Need-slice-aggregate-put-sector
 slice-aggregate-put-sector c = search needs

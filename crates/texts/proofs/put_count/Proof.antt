@@ -3,11 +3,11 @@ use Prim.Native.Nat.{_≤_}
 use native.Mathlib.Omega.{arith}
 use borrow.Author.Needs.{needs}
 use lib.ListN.{length}
-use Rattle.consts.specs.Text.{decimalOf}
-use Rattle.consts.proofs.Decimal.{decimal-of-usize}
-use Rattle.consts.proofs.Texts.{put-one, put-many}
-use Rattle.consts.proofs.put_count.Statement.{statement}
-use Rattle.consts.proofs.put_count.Tie as tie
+use Rattle.texts.specs.Text.{decimalOf}
+use Rattle.texts.proofs.Decimal.{decimal-of-usize}
+use Rattle.texts.proofs.Texts.{put-one, put-many}
+use Rattle.texts.proofs.put_count.Statement.{statement}
+use Rattle.texts.proofs.put_count.Tie as tie
 
 -- The places behind the calls: after the space, after the number, and the function's entry.
 abbrev spaced : tie.After-slice-known5 → tie.After-put-bytes2

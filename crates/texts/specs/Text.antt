@@ -5,9 +5,9 @@ use mathlib.Core.List.{List, [], _∷_, _++_}
 use lib.Dec.{ltb, eqb}
 use lib.ListN.{length, replicate}
 use Rattle.lists.specs.Lists.{choose, splice}
 use Rattle.consts.specs.declared.Sector.{Sector}
 use Rattle.consts.specs.declared.Sector.the-variants.{Free, End, Fat, Difat, Range}
-use Rattle.consts.specs.declared.Text.{Text}
+use Rattle.texts.specs.declared.Text.{Text}
 
 -- `{n}`, f + 1 digits at most: one digit, or the digits of n / 10 and the last one.
 unfoldable pub digits : ℕ → ℕ → List ℕ

@@ -1,9 +1,9 @@
 -- `consts::put_sector` meets its contract: each arm puts the text of its item, and 26 bytes hold the longest. Assumes nothing.
-use Rattle.consts.specs.Text.{textOf}
-use Rattle.consts.proofs.Texts.{put-known}
+use Rattle.texts.specs.Text.{textOf}
+use Rattle.texts.proofs.Texts.{put-known}
 use borrow.Author.Needs.{needs}
-use Rattle.consts.proofs.put_sector.Statement.{statement}
-use Rattle.consts.proofs.put_sector.Tie as tie
+use Rattle.texts.proofs.put_sector.Statement.{statement}
+use Rattle.texts.proofs.put_sector.Tie as tie
 
 enum-known-s : tie.Need-enum-known-s
 enum-known-s c = search needs

@@ -9,7 +9,7 @@ use borrow.Author.Tests.{lt-ltb, le-ltb}
 use lib.ListN.{length, getD, length-append, List·getD-append}
 use lib.Seq.{getD-at}
 use Rattle.lists.proofs.Cases.{below-or}
-use Rattle.consts.specs.Text.{digits, decimalOf}
+use Rattle.texts.specs.Text.{digits, decimalOf}
 
 -- a number of one digit, and of more
 digits-one : (f n : ℕ) → n < 10 → digits f n ≡ (48 + n) ∷ []

@@ -3,11 +3,11 @@ use Prim.Native.Nat.{_≤_}
 use native.Mathlib.Omega.{arith}
 use borrow.Author.Needs.{needs}
 use lib.ListN.{length}
-use Rattle.consts.specs.Text.{decimalOf}
-use Rattle.consts.proofs.Decimal.{decimal-of-u32}
-use Rattle.consts.proofs.Texts.{put-same, put-span}
-use Rattle.consts.proofs.put_range.Statement.{statement}
-use Rattle.consts.proofs.put_range.Tie as tie
+use Rattle.texts.specs.Text.{decimalOf}
+use Rattle.texts.proofs.Decimal.{decimal-of-u32}
+use Rattle.texts.proofs.Texts.{put-same, put-span}
+use Rattle.texts.proofs.put_range.Statement.{statement}
+use Rattle.texts.proofs.put_range.Tie as tie
 
 -- The places behind the calls: after the sign, after the first number, and the function's entry.
 abbrev signed : tie.After-slice-known4 → tie.After-put-bytes

@@ -1,13 +1,13 @@
--- `consts::digits_of` meets its contract: a usize has at most 20 digits, and they stand at the front of 32 zeros. Assumes nothing.
+-- `texts::digits_of` meets its contract: a usize has at most 20 digits, and they stand at the front of 32 zeros. Assumes nothing.
 use Prim.Native.Nat.{_≤_}
 use native.Mathlib.Omega.{arith}
 use lib.ListN.{length}
-use Rattle.consts.specs.Text.{decimalOf}
-use Rattle.consts.proofs.Decimal.{decimal-of-usize}
-use Rattle.consts.proofs.Texts.{put-written}
+use Rattle.texts.specs.Text.{decimalOf}
+use Rattle.texts.proofs.Decimal.{decimal-of-usize}
+use Rattle.texts.proofs.Texts.{put-written}
 use borrow.Author.Needs.{needs}
-use Rattle.consts.proofs.digits_of.Statement.{statement}
-use Rattle.consts.proofs.digits_of.Tie as tie
+use Rattle.texts.proofs.digits_of.Statement.{statement}
+use Rattle.texts.proofs.digits_of.Tie as tie
 
 few : (c : tie.Start) → length (decimalOf (c .args .n)) ≤ 20
 few c = decimal-of-usize _ (omega arith)

@@ -11,12 +11,12 @@ use lib.Seq.{append-snoc}
 use Rattle.lists.specs.Lists.{splice}
 use Rattle.lists.proofs.Cases.{same-or}
 use Rattle.lists.proofs.Splice.{splice-nil}
 use Rattle.consts.specs.declared.Sector.{Sector}
 use Rattle.consts.specs.declared.Sector.the-variants.{Free, End, Fat, Difat, Range}
-use Rattle.consts.specs.declared.Text.{Text}
-use Rattle.consts.specs.Text.{decimalOf, countOf, rangeOf, free, fat, difat, textOf, Put, written}
-use Rattle.consts.proofs.Decimal.{decimal-one, decimal-more, decimal-length-one, decimal-length-more, decimal-of-usize, decimal-of-u32}
-use Rattle.consts.proofs.Puts.{put-byte, put-after}
+use Rattle.texts.specs.declared.Text.{Text}
+use Rattle.texts.specs.Text.{decimalOf, countOf, rangeOf, free, fat, difat, textOf, Put, written}
+use Rattle.texts.proofs.Decimal.{decimal-one, decimal-more, decimal-length-one, decimal-length-more, decimal-of-usize, decimal-of-u32}
+use Rattle.texts.proofs.Puts.{put-byte, put-after}
 
 -- a number of one digit, and the last digit of a longer one
 pub put-digit : (b : List ℕ) (at n : ℕ) → n < 10 → at + length (decimalOf n) ≤ length b → Put b at (decimalOf n) (at + 1) (set b at (48 + n))

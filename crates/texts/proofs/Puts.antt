@@ -8,7 +8,7 @@ use lib.ListN.{length, getD, take, set, length-append, length-set}
 use lib.Seq.{take-suc, take-length}
 use Rattle.lists.specs.Lists.{splice}
 use Rattle.lists.proofs.Splice.{length-splice, splice-nil, splice-append, set-splice}
-use Rattle.consts.specs.Text.{Put}
+use Rattle.texts.specs.Text.{Put}
 
 -- one byte more, stored at the place past the text
 pub put-byte : {b : List ℕ} {at : ℕ} {xs : List ℕ} {r : ℕ} {after : List ℕ} → Put b at xs r after → (v : ℕ) → r < length b

@@ -1,0 +1,4 @@
+pub mod Decimal
+pub mod Examples
+pub mod Puts
+pub mod Texts
