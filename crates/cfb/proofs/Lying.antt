@@ -11,15 +11,15 @@ use Rattle.lists.specs.Rows.{distinct, fresh}
 use Rattle.lists.proofs.Rows.{given-none}
 use Rattle.alloc.specs.Opening.{Tables}
 use Rattle.agree.specs.Agree.{agreement}
-use Rattle.chain.specs.Walk.{Outcome, lists, refuses, walkOf}
+use Rattle.walk.specs.Walk.{Outcome, lists, refuses, walkOf}
+use Rattle.walk.proofs.Exactly.{never-spent}
+use Rattle.walk.proofs.Chains.{walk-sectors}
 use Rattle.chain.specs.Bytes.{Lies, Readable, ReadLeft}
-use Rattle.chain.proofs.Exactly.{never-spent}
-use Rattle.chain.proofs.Chains.{walk-sectors}
 use Rattle.chain.proofs.Bytes.{sectors-lie}
 use Rattle.cfb.specs.Calls.{outcomeNo, outcomeIds, stateLen, walked, agreedRows, walkRows, chainRows, chainNo, chainIds}
 use Rattle.agree.proofs.Meaning.{agrees-exactly}
-use Rattle.chain.specs.declared.Walked.{Walked}
-use Rattle.chain.specs.declared.Walked.the-variants.{Listed}
+use Rattle.walk.specs.declared.Walked.{Walked}
+use Rattle.walk.specs.declared.Walked.the-variants.{Listed}
 use Rattle.cfb.specs.Listed.{ChainListed}
 use Rattle.cfb.specs.declared.State.{State}
 use Rattle.cfb.proofs.Agreed.{Chained, agreed-chained}

@@ -10,8 +10,8 @@ use Rattle.lists.specs.Lists.{splice, part}
 use Rattle.lists.proofs.Splice.{length-part, getD-part, length-splice, splice-inside, splice-above}
 use Rattle.sectors.specs.Sectors.{startOf, sectorOf, Holds}
 use Rattle.sectors.proofs.Laws.{sector-within}
+use Rattle.walk.specs.Steps.{Sectors}
 use Rattle.chain.specs.Bytes.{chainBytes, readCount, readBytes, Lies}
-use Rattle.chain.specs.Steps.{Sectors}
 
 -- lists of S elements, one after the other
 module _ (S : ℕ) (f : ℕ → List ℕ) where
