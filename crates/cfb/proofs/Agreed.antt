@@ -27,8 +27,8 @@ use Rattle.alloc.proofs.First.{early-held}
 use Rattle.alloc.proofs.Filled.{front-padded}
 use Rattle.agree.specs.Agrees.{Agrees}
 use Rattle.agree.proofs.Agreeing.{holds-room}
-use Rattle.chain.specs.Steps.{Once}
-use Rattle.chain.proofs.Judged.{once-judged}
+use Rattle.walk.specs.Steps.{Once}
+use Rattle.walk.proofs.Judged.{once-judged}
 
 -- rows 15 to 17 are passed only where no sector is wrong
 none-wrong : (w : ℕ) → Number w → eqb w 15 ≡ false → eqb w 16 ≡ false → eqb w 17 ≡ false → w ≡ 0

@@ -14,9 +14,9 @@ use Rattle.lists.proofs.Cases.{same-or}
 use Rattle.lists.proofs.Rows.{stop, pass, append-given, append-none}
 use Rattle.alloc.specs.Opening.{Tables}
 use Rattle.alloc.specs.Opened.{padded}
+use Rattle.walk.specs.declared.Walked.{Walked}
+use Rattle.walk.specs.declared.Walked.the-variants.{Listed, Refused}
 use Rattle.chain.specs.Bytes.{ReadLeft}
-use Rattle.chain.specs.declared.Walked.{Walked}
-use Rattle.chain.specs.declared.Walked.the-variants.{Listed, Refused}
 use Rattle.cfb.specs.Calls.{stateLen, agreedRows, walkRows, chainRows, chainNo, chainIds, readRows, readNo, idsLeft, toldBy, told, ChainOpens, ChainReads}
 use Rattle.cfb.specs.Listed.{walkedAs, answerFrom, ChainListed}
 use Rattle.cfb.specs.declared.State.{State}

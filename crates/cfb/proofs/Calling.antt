@@ -16,13 +16,13 @@ use Rattle.fat.specs.Lists.{roomOf}
 use Rattle.alloc.specs.Opening.{Tables, shortest}
 use Rattle.alloc.specs.Opened.{padded}
 use Rattle.agree.specs.Agree.{agreement}
-use Rattle.chain.specs.Steps.{Once}
-use Rattle.chain.specs.Walk.{Outcome, lists, refuses, walkOf}
-use Rattle.chain.specs.Walked.{answerOf, WalkLeft}
-use Rattle.chain.specs.declared.Walked.{Walked}
-use Rattle.chain.specs.declared.Walked.the-variants.{Listed, Refused}
-use Rattle.chain.proofs.Walking.{Fate, past, ended, broken, back, spent, fate}
-use Rattle.chain.proofs.Exactly.{never-spent}
+use Rattle.walk.specs.Steps.{Once}
+use Rattle.walk.specs.Walk.{Outcome, lists, refuses, walkOf}
+use Rattle.walk.specs.Walked.{answerOf, WalkLeft}
+use Rattle.walk.specs.declared.Walked.{Walked}
+use Rattle.walk.specs.declared.Walked.the-variants.{Listed, Refused}
+use Rattle.walk.proofs.Walking.{Fate, past, ended, broken, back, spent, fate}
+use Rattle.walk.proofs.Exactly.{never-spent}
 use Rattle.cfb.specs.Calls.{outcomeNo, outcomeIds, stateLen, walked, agreedRows, walkRows, chainRows, chainNo, chainIds, idsLeft}
 use Rattle.cfb.specs.Listed.{cleared, walkedAs, ChainListed}
 use Rattle.cfb.specs.declared.State.{State}

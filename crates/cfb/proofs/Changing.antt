@@ -13,8 +13,8 @@ use Rattle.lists.specs.Lists.{choose}
 use Rattle.fat.specs.Lists.{roomOf}
 use Rattle.alloc.specs.Opening.{Tables}
 use Rattle.alloc.specs.Opened.{padded}
-use Rattle.chain.specs.declared.Walked.{Walked}
-use Rattle.chain.specs.declared.Walked.the-variants.{Listed, Refused}
+use Rattle.walk.specs.declared.Walked.{Walked}
+use Rattle.walk.specs.declared.Walked.the-variants.{Listed, Refused}
 use Rattle.hand.specs.Hand.{Chain}
 use Rattle.hand.specs.Fits.{FitsChain}
 use Rattle.moves.proofs.Changing.{chain-room}

@@ -14,8 +14,8 @@ use Rattle.lists.proofs.Exactly.{_▸_, exactly, accepted, explained-by, explai
 use Rattle.agree.specs.Agree.{agreement}
 use Rattle.agree.proofs.Meaning.{agrees-exactly}
 use Rattle.alloc.specs.Opening.{Tables}
-use Rattle.chain.specs.Walk.{Outcome, lists, refuses, walkOf}
-use Rattle.chain.proofs.Exactly.{past-exactly, breaks-exactly, returns-exactly}
+use Rattle.walk.specs.Walk.{Outcome, lists, refuses, walkOf}
+use Rattle.walk.proofs.Exactly.{past-exactly, breaks-exactly, returns-exactly}
 use Rattle.cfb.specs.Calls.{outcomeNo, stateLen, walked, agreedRows, walkRows, chainRows, chainNo, chainIds, readRows, readNo}
 use Rattle.cfb.specs.Causes.{Agreed, stateFat, ChainCause, ReadCause}
 use Rattle.cfb.specs.declared.State.{State}

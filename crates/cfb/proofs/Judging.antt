@@ -12,8 +12,8 @@ use Rattle.lists.specs.Rows.{Row, row, refusal, distinct, fresh}
 use Rattle.lists.proofs.Cases.{true-or}
 use Rattle.lists.proofs.Rows.{stop, pass, append-given, append-none, append-accepts}
 use Rattle.alloc.specs.Opening.{Tables}
-use Rattle.chain.specs.declared.Walked.{Walked}
-use Rattle.chain.specs.declared.Walked.the-variants.{Listed, Refused}
+use Rattle.walk.specs.declared.Walked.{Walked}
+use Rattle.walk.specs.declared.Walked.the-variants.{Listed, Refused}
 use Rattle.disk.specs.Needed.{resizeMore, writeMore}
 use Rattle.cfb.specs.Calls.{stateLen, agreedRows, walkRows, chainIds, idsLeft}
 use Rattle.cfb.specs.Changes.{changeRows, changeNo, noRoom, resizeRows, resizeNo, writeRows, writeNo, Listing, Judged}

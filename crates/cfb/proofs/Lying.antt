@@ -11,15 +11,15 @@ use Rattle.lists.specs.Rows.{distinct, fresh}
 use Rattle.lists.proofs.Rows.{given-none}
 use Rattle.alloc.specs.Opening.{Tables}
 use Rattle.agree.specs.Agree.{agreement}
-use Rattle.chain.specs.Walk.{Outcome, lists, refuses, walkOf}
+use Rattle.walk.specs.Walk.{Outcome, lists, refuses, walkOf}
+use Rattle.walk.proofs.Exactly.{never-spent}
+use Rattle.walk.proofs.Chains.{walk-sectors}
 use Rattle.chain.specs.Bytes.{Lies, Readable, ReadLeft}
-use Rattle.chain.proofs.Exactly.{never-spent}
-use Rattle.chain.proofs.Chains.{walk-sectors}
 use Rattle.chain.proofs.Bytes.{sectors-lie}
 use Rattle.cfb.specs.Calls.{outcomeNo, outcomeIds, stateLen, walked, agreedRows, walkRows, chainRows, chainNo, chainIds}
 use Rattle.agree.proofs.Meaning.{agrees-exactly}
-use Rattle.chain.specs.declared.Walked.{Walked}
-use Rattle.chain.specs.declared.Walked.the-variants.{Listed}
+use Rattle.walk.specs.declared.Walked.{Walked}
+use Rattle.walk.specs.declared.Walked.the-variants.{Listed}
 use Rattle.cfb.specs.Listed.{ChainListed}
 use Rattle.cfb.specs.declared.State.{State}
 use Rattle.cfb.proofs.Agreed.{Chained, agreed-chained}
@@ -61,7 +61,9 @@ module _ (s : State) (img : List ℕ) (t : Tables) (room start : ℕ) (z : chain
   lists-chain = outcome-lists _ number-0 (never-spent _ start (known .few) (known .once))
 
   pub chain-lies : Lies (stateLen s) (length img) (chainIds s t start)
-  chain-lies = sectors-lie (stateLen s) (length img) (take (s .sectors) (t .fat)) (chainIds s t start) (known .holds) (walk-sectors _ start _ (known .few) lists-chain)
+  chain-lies =
+      let own = walk-sectors _ start _ (known .few) lists-chain in
+      sectors-lie (stateLen s) (length img) (take (s .sectors) (t .fat)) (chainIds s t start) (known .holds) (own .most) (own .within)
 
 -- what is said of a chain by the length of its sectors is said by an equal one
 pub read-own : {S S' : ℕ} {img ids buf buf' : List ℕ} {offset bytes : ℕ} → S ≡ S' → ReadLeft S img ids offset buf bytes buf' → ReadLeft S' img ids offset buf bytes buf'

@@ -21,15 +21,15 @@ use Rattle.alloc.specs.Opening.{Tables, shortest}
 use Rattle.alloc.specs.Opened.{padded}
 use Rattle.agree.specs.Agrees.{FreesOnce}
 use Rattle.agree.proofs.Meaning.{agrees-exactly}
-use Rattle.chain.specs.Steps.{Sectors, Linked}
-use Rattle.chain.proofs.Chains.{getD-any, walk-sectors, lists-exactly}
+use Rattle.walk.specs.Steps.{Sectors, Linked}
+use Rattle.walk.proofs.Chains.{getD-any, walk-sectors, lists-exactly}
 use Rattle.hand.specs.Fits.{FitsHand, FitsChain}
 use Rattle.moves.specs.Change.{Apart}
 use Rattle.moves.proofs.Changing.{chain-bytes-small}
 use Rattle.cfb.specs.Calls.{stateLen, agreedRows, walkRows, chainNo, chainIds}
 use Rattle.cfb.specs.Causes.{Agreed}
-use Rattle.chain.specs.declared.Walked.{Walked}
-use Rattle.chain.specs.declared.Walked.the-variants.{Listed}
+use Rattle.walk.specs.declared.Walked.{Walked}
+use Rattle.walk.specs.declared.Walked.the-variants.{Listed}
 use Rattle.cfb.specs.Changes.{changeRows, changeNo, chainFrom, Listing}
 use Rattle.cfb.specs.declared.State.{State}
 use Rattle.cfb.proofs.Agreed.{Chained}

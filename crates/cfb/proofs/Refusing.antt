@@ -23,10 +23,10 @@ use Rattle.alloc.specs.Opening.{Tables, openTables, shortest}
 use Rattle.alloc.specs.Opened.{padded}
 use Rattle.agree.specs.Agree.{agreement}
 use Rattle.agree.proofs.Meaning.{agrees-exactly}
-use Rattle.chain.specs.Walk.{lists, refuses}
-use Rattle.chain.proofs.Walking.{walk-past}
-use Rattle.chain.specs.declared.Walked.{Walked}
-use Rattle.chain.specs.declared.Walked.the-variants.{Listed, Refused}
+use Rattle.walk.specs.Walk.{lists, refuses}
+use Rattle.walk.proofs.Walking.{walk-past}
+use Rattle.walk.specs.declared.Walked.{Walked}
+use Rattle.walk.specs.declared.Walked.the-variants.{Listed, Refused}
 use Rattle.cfb.specs.Calls.{outcomeNo, stateLen, walked, agreedRows, walkRows, chainRows, chainNo, chainIds, idsLeft}
 use Rattle.cfb.specs.Changes.{startPointed, changeRows, changeNo, ChangeListed}
 use Rattle.cfb.specs.Listed.{walkedAs, walkedNo, ChainListed}

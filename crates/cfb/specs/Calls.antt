@@ -12,7 +12,7 @@ use Rattle.fat.specs.Lists.{roomOf}
 use Rattle.alloc.specs.Opening.{Tables, shortest}
 use Rattle.alloc.specs.Opened.{padded}
 use Rattle.agree.specs.Agree.{agreement}
-use Rattle.chain.specs.Walk.{Outcome, lists, refuses, walkOf}
+use Rattle.walk.specs.Walk.{Outcome, lists, refuses, walkOf}
 use Rattle.chain.specs.Bytes.{readCount, readBytes}
 use Rattle.cfb.specs.declared.Answer.{Answer}
 use Rattle.cfb.specs.declared.Answer.the-variants.{Done, Refused}

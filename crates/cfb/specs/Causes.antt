@@ -11,7 +11,7 @@ use Rattle.header.specs.declared.Validation.the-variants.{Permissive}
 use Rattle.fat.specs.Lists.{roomOf}
 use Rattle.alloc.specs.Opening.{Tables, shortest}
 use Rattle.agree.specs.Agrees.{Agrees}
-use Rattle.chain.specs.Steps.{Breaks, Returns}
+use Rattle.walk.specs.Steps.{Breaks, Returns}
 use Rattle.disk.specs.Needed.{resizeMore, writeMore}
 use Rattle.disk.specs.Disk.{countAfter}
 use Rattle.cfb.specs.Calls.{stateLen, chainIds}

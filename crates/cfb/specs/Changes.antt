@@ -18,7 +18,7 @@ use Rattle.disk.specs.Disk.{countAfter}
 use Rattle.disk.specs.Needed.{resizeMore, writeMore}
 use Rattle.hand.specs.Hand.{Chain}
 use Rattle.moves.specs.Change.{resized, written}
-use Rattle.chain.specs.declared.Walked.{Walked}
+use Rattle.walk.specs.declared.Walked.{Walked}
 use Rattle.cfb.specs.Calls.{stateLen, walked, agreedRows, walkRows, chainIds, idsLeft, toldBy, told}
 use Rattle.cfb.specs.Listed.{walkedAs}
 use Rattle.moves.specs.declared.change.Changed.{Changed}

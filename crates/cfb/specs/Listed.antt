@@ -7,8 +7,8 @@ use lib.ListN.{length, take}
 use Rattle.lists.specs.Lists.{choose}
 use Rattle.alloc.specs.Opening.{Tables}
 use Rattle.alloc.specs.Opened.{padded}
-use Rattle.chain.specs.declared.Walked.{Walked}
-use Rattle.chain.specs.declared.Walked.the-variants.{Listed, Refused}
+use Rattle.walk.specs.declared.Walked.{Walked}
+use Rattle.walk.specs.declared.Walked.the-variants.{Listed, Refused}
 use Rattle.cfb.specs.Calls.{chainNo, chainIds, idsLeft}
 use Rattle.cfb.specs.declared.State.{State}
 use Rattle.cfb.specs.declared.Answer.{Answer}

@@ -11,7 +11,6 @@ use Rattle.lists.proofs.Splice.{length-part, getD-part, length-splice, splice-i
 use Rattle.sectors.specs.Sectors.{startOf, sectorOf, Holds}
 use Rattle.sectors.proofs.Laws.{sector-within}
 use Rattle.chain.specs.Bytes.{chainBytes, readCount, readBytes, Lies}
-use Rattle.chain.specs.Steps.{Sectors}
 
 -- lists of S elements, one after the other
 module _ (S : ℕ) (f : ℕ → List ℕ) where
@@ -91,12 +90,12 @@ module _ (S : ℕ) (img ids : List ℕ) (l : Lies S (length img) ids) where
       chain-long = length-part (chainBytes S img ids) o k (run-fits o k h r)
 
 -- sectors of a table lie in an image that holds as many as it has entries
-pub sectors-lie : (S len : ℕ) (fat ids : List ℕ) → Holds S (length fat) len → Sectors fat ids → Lies S len ids
-sectors-lie S len fat ids h s = record {
+pub sectors-lie : (S len : ℕ) (fat ids : List ℕ) → Holds S (length fat) len → length ids ≤ length fat → ((j : ℕ) → j < length ids → getD ids j 0 < length fat) → Lies S len ids
+sectors-lie S len fat ids h few within = record {
   some = omega (arith, h .entries, h .two);
-  inside = λ j l. sector-within S (length fat) len (getD ids j 0) h (s .within j l);
+  inside = λ j l. sector-within S (length fat) len (getD ids j 0) h (within j l);
   all =
-      let most : S * length ids ≤ S * length fat = mul-le-mul-left S (s .most) in
+      let most : S * length ids ≤ S * length fat = mul-le-mul-left S few in
       omega (arith, h .fits, add-mul (length fat) 1 S, mul-comm S (length fat));
 }
 

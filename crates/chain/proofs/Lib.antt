@@ -1,13 +1,7 @@
 pub mod Apart
 pub mod Bytes
-pub mod Chains
 pub mod Examples
-pub mod Exactly
-pub mod Judged
-pub mod Listing
 pub mod Reading
-pub mod Steps
 pub mod Stored
-pub mod Walking
 pub mod Writing
 pub mod Zeroed

@@ -12,8 +12,8 @@ use Rattle.lists.proofs.Rows.{given-none, append-accepts}
 use Rattle.fat.specs.Lists.{roomOf, ceil}
 use Rattle.alloc.specs.Opening.{Tables}
 use Rattle.alloc.specs.Opened.{padded}
+use Rattle.walk.specs.Walk.{lists, walkOf}
 use Rattle.chain.specs.Bytes.{chainBytes}
-use Rattle.chain.specs.Walk.{lists, walkOf}
 use Rattle.hand.specs.Hand.{Chain}
 use Rattle.disk.specs.Needed.{resizeMore, writeMore}
 use Rattle.moves.specs.Change.{resized, written, idsOf, FitsResize, FitsWrite}

@@ -18,8 +18,8 @@ use Rattle.fat.specs.Lists.{ceil}
 use Rattle.sectors.specs.Sectors.{sectorOf}
 use Rattle.alloc.specs.Opening.{Tables, openNo, shortest}
 use Rattle.alloc.specs.Opened.{padded}
+use Rattle.walk.specs.Walk.{lists, walkOf}
 use Rattle.chain.specs.Bytes.{chainBytes}
-use Rattle.chain.specs.Walk.{lists, walkOf}
 use Rattle.hand.specs.Hand.{Chain}
 use Rattle.moves.specs.Change.{idsOf}
 use Rattle.moves.proofs.Changing.{chain-listed, resized-fits, written-fits}

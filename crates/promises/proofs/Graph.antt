@@ -12,7 +12,7 @@ use Rattle.fat.specs.Lists.{ceil}
 use Rattle.disk.specs.Needed.{resizeMore, writeMore}
 use Rattle.hand.specs.Hand.{Hand, Chain, takenId, takeSector, freeRun, extendOne, extend}
 use Rattle.hand.specs.Fits.{FitsChain, FitsMore}
-use Rattle.chain.proofs.Chains.{getD-any}
+use Rattle.walk.proofs.Chains.{getD-any}
 use Rattle.moves.specs.Change.{cut, shrink, withImage, idsOf, resized, written, FitsShrink, FitsResize, FitsWrite}
 use Rattle.hand.proofs.Taking.{id-new, id-last}
 use Rattle.hand.proofs.Linking.{linked-none, linked-last, one-count, one-sectors, one-fits, more-room, more-taken, more-place, more-last}

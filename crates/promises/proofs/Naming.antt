@@ -11,8 +11,8 @@ use Rattle.consts.specs.Consts.{endOfChain, freeSector}
 use Rattle.fat.specs.Lists.{ceil, roomOf}
 use Rattle.alloc.specs.Opening.{Tables}
 use Rattle.disk.specs.Needed.{resizeMore, writeMore}
-use Rattle.chain.specs.Walk.{Outcome, lists, refuses}
-use Rattle.chain.proofs.Chains.{getD-any, lists-exactly}
+use Rattle.walk.specs.Walk.{Outcome, lists, refuses}
+use Rattle.walk.proofs.Chains.{getD-any, lists-exactly}
 use Rattle.hand.specs.Hand.{Chain}
 use Rattle.hand.specs.Fits.{FitsChain}
 use Rattle.moves.specs.Change.{withImage, resized, written, FitsResize, FitsWrite}

@@ -10,10 +10,10 @@ use Rattle.lists.proofs.Cases.{below-or, same-or}
 use Rattle.consts.specs.Consts.{difatSector, fatSector, endOfChain, freeSector}
 use Rattle.fat.specs.Lists.{roomOf, ceil}
 use Rattle.alloc.specs.Opening.{Tables}
+use Rattle.walk.specs.Steps.{Linked}
+use Rattle.walk.specs.Walk.{lists, walkOf}
+use Rattle.walk.proofs.Chains.{getD-any, lists-exactly}
 use Rattle.chain.specs.Bytes.{chainBytes}
-use Rattle.chain.specs.Steps.{Linked}
-use Rattle.chain.specs.Walk.{lists, walkOf}
-use Rattle.chain.proofs.Chains.{getD-any, lists-exactly}
 use Rattle.disk.specs.Needed.{resizeMore, writeMore}
 use Rattle.hand.specs.Hand.{Hand, Chain, takenId, takeSector, linked, extendOne, extend}
 use Rattle.hand.specs.Fits.{FitsChain, FitsMore}

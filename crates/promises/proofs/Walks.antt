@@ -17,9 +17,9 @@ use Rattle.judge.proofs.Judging.{pointed-by}
 use Rattle.alloc.specs.Opening.{Tables}
 use Rattle.alloc.specs.Opened.{padded}
 use Rattle.alloc.proofs.Filled.{front-padded, length-marks}
-use Rattle.chain.specs.Steps.{Linked, Unpointed}
-use Rattle.chain.specs.Walk.{lists, walkOf}
-use Rattle.chain.proofs.Chains.{getD-any, lists-exactly}
+use Rattle.walk.specs.Steps.{Linked, Unpointed}
+use Rattle.walk.specs.Walk.{lists, walkOf}
+use Rattle.walk.proofs.Chains.{getD-any, lists-exactly}
 use Rattle.hand.specs.Hand.{Chain}
 use Rattle.hand.specs.Fits.{FitsChain}
 use Rattle.moves.specs.Change.{idsOf}

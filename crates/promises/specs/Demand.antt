@@ -13,7 +13,7 @@ use Rattle.sectors.specs.Sectors.{sectorOf}
 use Rattle.alloc.specs.Opening.{Tables, openNo, shortest}
 use Rattle.alloc.specs.Opened.{padded, tablesLeft}
 use Rattle.agree.specs.Agrees.{Permuted}
-use Rattle.chain.specs.Walk.{lists}
+use Rattle.walk.specs.Walk.{lists}
 use Rattle.chain.specs.Bytes.{chainBytes}
 use Rattle.disk.specs.Needed.{writeMore}
 use Rattle.hand.specs.Hand.{Chain}

@@ -5,7 +5,7 @@ use mathlib.Core.List.{List}
 use lib.ListN.{getD, take}
 use Rattle.consts.specs.Consts.{endOfChain}
 use Rattle.judge.specs.Judge.{marksOf}
-use Rattle.chain.specs.Steps.{Linked, Unpointed}
+use Rattle.walk.specs.Steps.{Linked, Unpointed}
 use Rattle.points.specs.Frees.{FreesOnce}
 use Rattle.sound.specs.Sound.{WellFormed}
 use Rattle.hand.specs.Hand.{Hand, Chain}

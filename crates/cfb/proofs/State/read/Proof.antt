@@ -4,7 +4,7 @@ use mathlib.Core.Path.{_≡_, sym, _∙_, ap}
 use native.Mathlib.Omega.{arith}
 use lib.ListN.{replicate}
 use Rattle.alloc.specs.Opening.{Tables}
-use Rattle.chain.specs.declared.Walked.the-variants.{Listed}
+use Rattle.walk.specs.declared.Walked.the-variants.{Listed}
 use Rattle.cfb.specs.declared.State.{State}
 use Rattle.cfb.proofs.Answering.{reads-refused, reads-past, reads-done}
 use Rattle.cfb.proofs.Lying.{read-own, past-own, within-own, listed-count, listed-within, listed-bytes, listed-readable}

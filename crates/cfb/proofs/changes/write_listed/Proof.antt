@@ -1,7 +1,7 @@
 -- A refusal is handed on; an offset past the end and a lack of room are rows 23 and 24.
 use mathlib.Core.Path.{_≡_, sym, _∙_, ap}
 use native.Mathlib.Omega.{arith}
-use Rattle.chain.specs.declared.Walked.the-variants.{Listed}
+use Rattle.walk.specs.declared.Walked.the-variants.{Listed}
 use Rattle.disk.specs.Needed.{writeMore}
 use Rattle.cfb.specs.Changes.{noRoom}
 use Rattle.cfb.proofs.Fitted.{length-least, length-most}

@@ -8,10 +8,10 @@ use lib.ListN.{length}
 use Rattle.lists.specs.Lists.{tab}
 use Rattle.lists.proofs.Cases.{below-or}
 use Rattle.consts.specs.Consts.{maxRegular, endOfChain}
-use Rattle.chain.specs.Walk.{Outcome, lists, refuses, walkOf}
-use Rattle.chain.specs.Steps.{stepped, Path, Returns, Breaks, Once, Unpointed}
-use Rattle.chain.proofs.Steps.{stepped-next, stepped-none, leaves-different, going-most}
-use Rattle.chain.proofs.Walking.{walk-past, walk-breaks, Fate, past, ended, broken, back, spent, fate}
+use Rattle.walk.specs.Walk.{Outcome, lists, refuses, walkOf}
+use Rattle.walk.specs.Steps.{stepped, Path, Returns, Breaks, Once, Unpointed}
+use Rattle.walk.proofs.Steps.{stepped-next, stepped-none, leaves-different, going-most}
+use Rattle.walk.proofs.Walking.{walk-past, walk-breaks, Fate, past, ended, broken, back, spent, fate}
 
 -- steps to END, and the ids on them
 pub record Ended (fat : List ℕ) (start : ℕ) (ids : List ℕ) : Type 0 where

@@ -13,9 +13,9 @@ use Rattle.lists.specs.Lists.{choose, either, tab, tabFrom}
 use Rattle.lists.proofs.Cases.{below-or, same-or, not-both, both-true, both-right, both-false-right}
 use Rattle.consts.specs.Consts.{maxRegular, endOfChain}
 use Rattle.judge.specs.Judge.{regular}
-use Rattle.chain.specs.Walk.{Outcome, lists, refuses, ahead, leads, walkFrom, walkOf}
-use Rattle.chain.specs.Steps.{stepped, Path, Breaks}
-use Rattle.chain.proofs.Steps.{stepped-next, stepped-none, leaves-going, leaves-most, Going, going-none, going-more}
+use Rattle.walk.specs.Walk.{Outcome, lists, refuses, ahead, leads, walkFrom, walkOf}
+use Rattle.walk.specs.Steps.{stepped, Path, Breaks}
+use Rattle.walk.proofs.Steps.{stepped-next, stepped-none, leaves-going, leaves-most, Going, going-none, going-more}
 
 -- an entry, in a table of fewer sectors than there are regular numbers: END and a sector lead on, any other does not
 pub leads-end : (n e : ℕ) → e ≡ endOfChain → leads n e ≡ true

@@ -11,13 +11,13 @@ use lib.Seq.{take-at, drop-at}
 use Rattle.lists.specs.Lists.{tab}
 use Rattle.lists.proofs.Tab.{length-tab, filled-none, filled-more, length-filled}
 use Rattle.consts.specs.Consts.{maxRegular, endOfChain}
-use Rattle.chain.specs.Walk.{Outcome, lists, refuses, leads, walkOf}
-use Rattle.chain.specs.Walked.{answerOf, Walkable, WalkLeft}
-use Rattle.chain.specs.declared.Walked.{Walked}
-use Rattle.chain.specs.declared.Walked.the-variants.{Listed, Refused}
-use Rattle.chain.specs.Steps.{stepped}
-use Rattle.chain.proofs.Steps.{stepped-next, stepped-none, Going, going-none, going-more, going-most}
-use Rattle.chain.proofs.Walking.{leads-true, leads-false, walk-past, walk-back, walk-bad, walk-ends}
+use Rattle.walk.specs.Walk.{Outcome, lists, refuses, leads, walkOf}
+use Rattle.walk.specs.Walked.{answerOf, Walkable, WalkLeft}
+use Rattle.walk.specs.declared.Walked.{Walked}
+use Rattle.walk.specs.declared.Walked.the-variants.{Listed, Refused}
+use Rattle.walk.specs.Steps.{stepped}
+use Rattle.walk.proofs.Steps.{stepped-next, stepped-none, Going, going-none, going-more, going-most}
+use Rattle.walk.proofs.Walking.{leads-true, leads-false, walk-past, walk-back, walk-bad, walk-ends}
 
 -- what is left where the walk's outcome is known
 left-refuses : (fat : List ℕ) (start : ℕ) (before after : List ℕ) (r : ℕ) → walkOf fat start ≡ refuses r → WalkLeft fat start before (Refused r) after

@@ -9,7 +9,7 @@ use lib.ListN.{length, getD}
 use Rattle.lists.proofs.Cases.{below-or}
 use Rattle.lists.proofs.Pigeon.{pigeon}
 use Rattle.consts.specs.Consts.{maxRegular}
-use Rattle.chain.specs.Steps.{stepped, Path, Once}
+use Rattle.walk.specs.Steps.{stepped, Path, Once}
 
 -- steps after steps
 pub stepped-add : (fat : List ℕ) (start i d : ℕ) → stepped fat start (i + d) ≡ stepped fat (stepped fat start i) d

@@ -9,11 +9,11 @@ use lib.Seq.{getD-drop}
 use Rattle.lists.proofs.Cases.{below-or}
 use Rattle.lists.proofs.Tab.{length-tab, getD-tab, is-tab}
 use Rattle.consts.specs.Consts.{maxRegular, endOfChain}
-use Rattle.chain.specs.Walk.{lists, walkOf}
-use Rattle.chain.specs.Steps.{stepped, Path, Sectors, Linked, Once, Unpointed}
-use Rattle.chain.proofs.Steps.{stepped-add, stepped-next, stepped-none, path-shorter, leaves-different, leaves-most}
-use Rattle.chain.proofs.Walking.{walk-ends}
-use Rattle.chain.proofs.Exactly.{Ended, listed-steps}
+use Rattle.walk.specs.Walk.{lists, walkOf}
+use Rattle.walk.specs.Steps.{stepped, Path, Sectors, Linked, Once, Unpointed}
+use Rattle.walk.proofs.Steps.{stepped-add, stepped-next, stepped-none, path-shorter, leaves-different, leaves-most}
+use Rattle.walk.proofs.Walking.{walk-ends}
+use Rattle.walk.proofs.Exactly.{Ended, listed-steps}
 
 -- within a list the value past its end does not matter
 pub getD-any : (l : List ℕ) (i d e : ℕ) → i < length l → getD l i d ≡ getD l i e

@@ -4,9 +4,9 @@ use mathlib.Core.Path.{_∙_, sym}
 use native.Mathlib.Omega.{arith}
 use borrow.Author.Tests.{not-true, not-false}
 use lib.ListN.{length, length-set}
-use Rattle.chain.proofs.Listing.{Walks, walks-begun, walks-past, walks-length, walks-over, turn-sector, turn-most, turn-room, turn-on, turn-bad, turn-back}
-use Rattle.chain.proofs.walk.Statement.{statement}
-use Rattle.chain.proofs.walk.Tie as tie
+use Rattle.walk.proofs.Listing.{Walks, walks-begun, walks-past, walks-length, walks-over, turn-sector, turn-most, turn-room, turn-on, turn-bad, turn-back}
+use Rattle.walk.proofs.walk.Statement.{statement}
+use Rattle.walk.proofs.walk.Tie as tie
 
 abbrev Inv-loop : tie.InvT-loop
 Inv-loop fat start ids₀ id₀ count₀ ids id count = Walks fat start ids₀ ids id count

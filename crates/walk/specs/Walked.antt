@@ -4,10 +4,10 @@ use mathlib.Core.Path.{_≡_}
 use mathlib.Core.List.{List, _++_}
 use lib.ListN.{length, drop}
 use Rattle.consts.specs.Consts.{maxRegular}
-use Rattle.chain.specs.Steps.{Once}
-use Rattle.chain.specs.Walk.{Outcome, lists, refuses, walkOf}
-use Rattle.chain.specs.declared.Walked.{Walked}
-use Rattle.chain.specs.declared.Walked.the-variants.{Listed, Refused}
+use Rattle.walk.specs.Steps.{Once}
+use Rattle.walk.specs.Walk.{Outcome, lists, refuses, walkOf}
+use Rattle.walk.specs.declared.Walked.{Walked}
+use Rattle.walk.specs.declared.Walked.the-variants.{Listed, Refused}
 
 -- document 01: the answer that stands for an outcome, with the number of ids or of the refusal
 unfoldable pub answerOf : Outcome → Walked

@@ -13,7 +13,7 @@ use Rattle.lists.proofs.Tab.{length-tab, getD-tab}
 use Rattle.consts.specs.Consts.{maxRegular}
 use Rattle.judge.specs.Judge.{regular, forgiven, pointed, wrongAt, firstWrong, forgivenFat}
 use Rattle.judge.proofs.Judging.{pointed-by, forgiven-low, forgiven-kind, forgiven-high}
-use Rattle.chain.specs.Steps.{Once}
+use Rattle.walk.specs.Steps.{Once}
 
 -- where no sector is the first bad one, none is bad
 none-wrong : (strict : Bool) (n : ℕ) (fat : List ℕ) (i c : ℕ) → firstWrong strict n fat i c ≡ 0 → (j : ℕ) → i ≤ j → j < i + c → wrongAt strict n fat j ≡ 0

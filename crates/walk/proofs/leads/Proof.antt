@@ -1,8 +1,8 @@
 -- END leads on by definition; of any other number the definition leaves the test that is returned.
 use mathlib.Core.Path.{sym}
-use Rattle.chain.proofs.Walking.{leads-end, leads-other}
-use Rattle.chain.proofs.leads.Statement.{statement}
-use Rattle.chain.proofs.leads.Tie as tie
+use Rattle.walk.proofs.Walking.{leads-end, leads-other}
+use Rattle.walk.proofs.leads.Statement.{statement}
+use Rattle.walk.proofs.leads.Tie as tie
 
 returns : tie.Need-returns
 returns c = sym (leads-end _ _ (c .if1 .taken))
