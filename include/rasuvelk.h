@@ -293,7 +293,8 @@ size_t rasuvelk_sector_text(uint32_t kind, uint64_t a, uint64_t b, rasuvelk_text
 
 /*
  * What a caller lends, together: rasuvelk_lend fills it in, rasuvelk_lent_open opens the image, and the calls after it
- * need nothing but this pointer. Read what you like; what you change by hand is refused by 19 at the next call.
+ * need nothing but this pointer. Read what you like. Pointers and lengths in it are taken for granted; a state, a table,
+ * a header or a FAT that you change by hand is refused by 19 at the next call, unless they still are what an opening gives.
  * It is made of the functions above, and each call gives their numbers and leaves what they leave.
  */
 typedef struct rasuvelk_lent {
@@ -326,7 +327,8 @@ static inline size_t rasuvelk_memory(size_t image_len)
 }
 
 /*
- * Lays the tables and the id list out in `memory`, which has to be aligned as malloc's is, and zeroes them and the state.
+ * Lays the tables and the id list out in `memory`, which has to be aligned for uint32_t, as malloc's is, and zeroes them
+ * and the state.
  * The image is `image_len` bytes long, the spare ones behind its used bytes among them: they are what changes can grow
  * into. Gives 0, or 11 where `memory` is null or shorter than rasuvelk_memory(image_len); *lent is untouched then.
  */

@@ -92,6 +92,9 @@ fn start_of(image: &Image, chosen: Option<&str>) -> Result<u32, Box<dyn Error>> 
 /// The image with the text over the chain's last bytes, and once more behind them.
 fn edit(original: &Image, start: u32) -> Result<Image, Box<dyn Error>> {
     let length = original.chain(start)?.len();
+    if length == 0 {
+        return Err(format!("chain {start} has no sectors, and so nothing to edit").into());
+    }
     let mut front = [0; 16];
     let read = original.read(start, 0, &mut front)?;
     println!("chain {start} begins with {:02x?}", &front[..read]);

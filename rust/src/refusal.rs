@@ -9,9 +9,10 @@ macro_rules! refusals {
     ($($number:literal $variant:ident, $name:literal, $cause:literal, $help:literal;)*) => {
         /// Why a call was refused: the cause, by the number that the specification gives it.
         ///
-        /// A refused call leaves the bytes, the tables and the state as they were. Each refusal has its
+        /// A refused call on a chain leaves the bytes, the tables and the state as they were; a refused opening leaves
+        /// the bytes, and lent tables as they were at 1 to 11 and zero at 12 to 18. Each refusal has its
         /// [`number`](Refusal::number), a [`name`](Refusal::name), its [`reason`](Refusal::reason) and a sentence of
-        /// [`help`](Refusal::help). docs/MOVING-FROM-CFB.md has a table of where each comes from in the field.
+        /// [`help`](Refusal::help). docs/MOVING-FROM-CFB.md has a table of where each may come from.
         ///
         /// ```
         /// use rasuvelk::{Image, Refusal, Validation};
@@ -142,10 +143,10 @@ refusals! {
         "Open it permissively to read it; in a header of your own set num_dir_sectors to 0.";
     8 Cutoff, "cutoff",
         "the mini stream cutoff is not 4096",
-        "The header is damaged; get the file anew.";
+        "The header is damaged, or its writer chose another cutoff; get the file anew, or have another program save it.";
     9 HeaderList, "header list",
         "the header's list of FAT sectors is not ids and then FREE to its end",
-        "The header is damaged or hides ids behind the first FREE; have the program that wrote the file save it again.";
+        "The header is damaged or hides ids behind the first FREE; get the file anew, or have another program save it.";
     10 WholeSectors, "whole sectors",
         "the used bytes are no whole number of sectors, or more than 16,384 besides the header's",
         "A file that was cut off or has bytes after its end: get it anew; a larger one than 16,384 sectors cannot be opened.";
@@ -154,13 +155,13 @@ refusals! {
         "Lend at least `room_for` elements in each; `Image` never meets this.";
     12 FatLists, "FAT lists",
         "the counts or lists of FAT and DIFAT sectors are not those that the number of sectors asks for",
-        "The file was cut off, has sectors without a FAT, or spare FAT sectors; have the program that wrote it save it again.";
+        "The file was cut off, has sectors without a FAT, or spare FAT sectors; get it anew, or have another program save it.";
     13 FatTail, "FAT tail",
         "a FAT entry past the last sector is not FREE",
-        "The file was cut off, or its FAT was not cleared; get it anew.";
+        "The file was cut off, or its writer left entries there; get it anew, set those entries to FREE, or have another program save it.";
     14 Unmarked, "unmarked",
         "a FAT or DIFAT sector is not marked as one in the FAT, in strict mode",
-        "Open it permissively to read it; to change it, have the program that wrote it save it again.";
+        "Open it permissively to read it; to change it, have another program save it.";
     15 PastEnd, "past the end",
         "an entry names a sector that is not there, in strict mode",
         "Open it permissively to read what there is; chains that ran past the end are cut there.";
@@ -181,7 +182,7 @@ refusals! {
         "Take the start from the header, from a directory entry or from `chain_starts`.";
     21 BrokenChain, "broken chain",
         "the chain meets an entry that is neither END_OF_CHAIN nor a sector of the image",
-        "The start or a later sector is FREE or belongs to the FAT; the directory entry that named it is wrong.";
+        "The start is FREE, or the chain runs into a sector of the FAT or the DIFAT: what named the start is wrong, or the FAT is; other chains can be read.";
     22 Loop, "loop",
         "the chain comes back to its start",
         "The FAT is damaged, and this chain has no end; other chains of the file can be read.";
@@ -196,7 +197,7 @@ refusals! {
         "Change a chain by its first sector, the one that no entry names; reading from the middle is allowed.";
     26 PermissiveChange, "permissive change",
         "a change was asked for of an image that was opened permissively",
-        "Open it strictly to change it; where that is refused, have the program that wrote it save it again.";
+        "Open it strictly to change it; where that is refused, have another program save it.";
 }
 
 impl fmt::Display for Refusal {

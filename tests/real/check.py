@@ -113,6 +113,7 @@ class Check:
         number = self.edit(file, "in place", [write(at, over)], changed(old[:at] + over + old[at + len(over) :]))
         if number == 25:
             # The stream begins in the middle of a chain: its maker strung all streams on one.
+            self.inside(file, start)
             self.said.append(f"{file.name}: {path[-1]} begins inside another stream's chain: a change is refused by 25")
             return
         if number:
@@ -143,9 +144,15 @@ class Check:
         steps = [f"write:{root}:{start * MINI}:{self.data(over)}"]
         number = self.edit(file, "small, in place", steps, {**streams, path: over + old[len(over) :]})
         if number == 25:
+            self.inside(file, root)
             self.said.append(f"{file.name}: the mini stream begins inside another stream's chain: a change is refused by 25")
         elif number:
             raise Wrong(f"{file.name}, {path[-1]}: refused {number}")
+
+    def inside(self, file, start):
+        """That 25 has its cause: some entry, as olefile reads the FAT, names the start."""
+        if not readers.named(file, start):
+            raise Wrong(f"{file.name}: a change from sector {start} is refused by 25, and no entry names it")
 
     def refused(self, file, number):
         """Looks for a refusal's cause in the bytes, by other code than the library's; mends a copy where it can."""
@@ -252,7 +259,7 @@ def main():
     for kind in KINDS:
         if kind not in kinds:
             raise Wrong(f"no file was edited so: {kind}")
-    print(f"{len(made)} files of {len(makers.MAKERS) - len(missing)} programs, {opened} opened strictly, {len(kinds)} edits")
+    print(f"{len(made)} files by {len(makers.MAKERS) - len(missing)} makers, {opened} opened strictly, {len(kinds)} edits")
     # what was made stays, as food for scripts/fuzz
     shutil.rmtree(check.edited)
     for data in work.glob("data*"):

@@ -37,6 +37,12 @@ def has_module(name):
         return False
 
 
+def has_perl(module):
+    if shutil.which("perl") is None:
+        return False
+    return not subprocess.run(["perl", f"-M{module}", "-e", "1"], capture_output=True).returncode
+
+
 def has_poi():
     return shutil.which("java") is not None and all(os.path.exists(jar) for jar in POI)
 
@@ -129,7 +135,7 @@ def by_msibuild(folder):
 
 def by_perl(folder):
     """A small file, and one with a DIFAT sector."""
-    if subprocess.run(["perl", "-MOLE::Storage_Lite", "-e", "1"], capture_output=True).returncode:
+    if not has_perl("OLE::Storage_Lite"):
         return []
     words = ["perl", "-MOLE::Storage_Lite", "-e", "print $OLE::Storage_Lite::VERSION"]
     text = subprocess.run(words, capture_output=True, text=True)
@@ -148,7 +154,7 @@ def by_perl(folder):
 
 def by_writeexcel(folder):
     """A sheet of 8,000 numbers."""
-    if subprocess.run(["perl", "-MSpreadsheet::WriteExcel", "-e", "1"], capture_output=True).returncode:
+    if not has_perl("Spreadsheet::WriteExcel"):
         return []
     program = """
         my $book = Spreadsheet::WriteExcel->new($ARGV[0]);

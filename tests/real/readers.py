@@ -9,7 +9,7 @@ import re
 import shutil
 import subprocess
 
-from makers import HERE, has_module, has_poi, poi
+from makers import HERE, has_module, has_perl, has_poi, poi
 
 
 def digest(data):
@@ -37,6 +37,12 @@ def layout(file):
             place = ole._find(path)
             entries[tuple(path)] = (place, ole.direntries[place].isectStart)
         return ole.first_dir_sector, ole.root.isectStart, entries
+
+
+def named(file, start):
+    """Whether some entry of the FAT names this sector, so that it is not the first of a chain."""
+    with opened(file) as ole:
+        return start in ole.fat
 
 
 class Olefile:
@@ -133,7 +139,7 @@ class Lite(Lines):
     name = "OLE::Storage_Lite"
 
     def there(self):
-        return not subprocess.run(["perl", "-MOLE::Storage_Lite", "-e", "1"], capture_output=True).returncode
+        return has_perl("OLE::Storage_Lite")
 
     def words(self, files):
         return ["perl", str(HERE / "lite.pl"), "read", *map(str, files)]
