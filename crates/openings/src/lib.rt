@@ -1,9 +1,9 @@
 // The openings on the list that the program `replay` reads: the image that a record describes is made, opened, and what came of it compared.
+use agree::alike::same_numbers;
 use cfb::State;
 use records::length_in;
 use records::mode_in;
 use records::number_in;
-use records::same_numbers;
 use records::take_numbers;
 ghost use mathlib.Core.Path.{_≡_};
 ghost use mathlib.Core.Bool.{true};

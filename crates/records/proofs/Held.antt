@@ -1,4 +1,4 @@
--- What a record holds, and how two headers are found to be the same. Assumes nothing.
+-- What a record holds, and what a comparison that fails says. Assumes nothing.
 use Prim.Native.Nat.{ℕ, _+_, _≤_}
 use mathlib.Core.Path.{_≡_, refl, _∙_, sym}
 use mathlib.Core.Bool.{Bool, true, false, not}
@@ -9,12 +9,8 @@ use borrow.Author.Tests.{eq-eqb, ne-eqb}
 use lib.ListN.{length, getD, drop, drop-of-length-le}
 use Rattle.lists.specs.Lists.{tab}
 use Rattle.lists.proofs.Cases.{not-both}
-use Rattle.header.specs.Versions.{majorOf}
-use Rattle.header.specs.declared.Version.{Version}
-use Rattle.header.specs.declared.Version.the-variants.{V3, V4}
 use Rattle.header.specs.declared.Validation.the-variants.{Permissive, Strict}
-use Rattle.header.specs.declared.Header.{Header}
-use Rattle.records.specs.Records.{modeIn, SameFields}
+use Rattle.records.specs.Records.{modeIn}
 
 -- a comparison that fails says nothing
 pub never : {A : Type 0} → false ≡ true → A
@@ -40,25 +36,3 @@ pub filled-all : (f : ℕ → ℕ) (d : List ℕ) (i : ℕ) {l : List ℕ} → l
 filled-all f d i e low high =
     let same : i ≡ length d = omega arith in
     e ∙ rw (drop-of-length-le d high, append-nil (tab f i), same)
-
--- versions with one number are one
-pub major-one : (v w : Version) → majorOf v ≡ majorOf w → v ≡ w
-major-one V3 V3 e = refl
-major-one V3 V4 e = absurd (omega arith)
-major-one V4 V3 e = absurd (omega arith)
-major-one V4 V4 e = refl
-
--- headers that agree in their fields and in their lists are the same
-pub header-same : {a b : Header} → SameFields a b → a .list ≡ b .list → a ≡ b
-header-same f e =
-    λ i. record {
-      version = f .version i;
-      dirs = f .dirs i;
-      fats = f .fats i;
-      dir = f .dir i;
-      minifat = f .minifat i;
-      minifats = f .minifats i;
-      difat = f .difat i;
-      difats = f .difats i;
-      list = e i;
-    }

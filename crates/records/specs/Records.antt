@@ -1,6 +1,5 @@
 -- What a record of the list that the program `replay` reads holds: 1,024 bytes for one call and its answer. Assumes nothing.
 use Prim.Native.Nat.{ℕ, _*_}
-use mathlib.Core.Path.{_≡_}
 use mathlib.Core.List.{List}
 use lib.Dec.{eqb}
 use lib.ListN.{getD}
@@ -42,14 +41,3 @@ headerIn v b =
       difats = le 4 b 28;
       list = numbersIn (part b 32 436) 109;
     }
-
--- two headers agree in all but their lists
-pub record SameFields (a b : Header) : Type 0 where
-  pub version : a .version ≡ b .version
-  pub dirs : a .dirs ≡ b .dirs
-  pub fats : a .fats ≡ b .fats
-  pub dir : a .dir ≡ b .dir
-  pub minifat : a .minifat ≡ b .minifat
-  pub minifats : a .minifats ≡ b .minifats
-  pub difat : a .difat ≡ b .difat
-  pub difats : a .difats ≡ b .difats

@@ -1,4 +1,5 @@
 // What a record of the list that the program `replay` reads holds, and the comparison of two headers.
+use agree::alike;
 use header::Header;
 use header::Validation;
 use header::Version;
@@ -6,8 +7,7 @@ ghost use mathlib.Core.Path.{_≡_};
 ghost use mathlib.Core.Bool.{true};
 ghost use Prim.Native.Nat.{_*_, _≤_};
 ghost use lib.ListN.{length};
-ghost use Rattle.lists.specs.Lists.{sameList};
-ghost use Rattle.records.specs.Records.{lengthIn, numberIn, modeIn, numbersIn, headerIn, SameFields};
+ghost use Rattle.records.specs.Records.{lengthIn, numberIn, modeIn, numbersIn, headerIn};
 
 // The bytes of a record.
 pub const RECORD: usize = 1024;
@@ -71,62 +71,9 @@ pub fn header_in(version: Version, held: &[u8]) -> Header
     }
 }
 
-// Whether two lists hold the same numbers.
-pub fn same_numbers(a: &[u32], b: &[u32]) -> bool
-    ensures { λ r. ⌜ r ≡ sameList (now (a .entry)) (now (b .entry)) ⌝ }
-{
-    if a.len() != b.len() {
-        return false;
-    }
-    let mut equal = true;
-    let mut i = 0;
-    while i < a.len() {
-        if a[i] != b[i] {
-            equal = false;
-        }
-        i += 1;
-    }
-    equal
-}
-
-// Whether two headers agree in their eight numbers.
-fn same_fields(a: Header, b: Header) -> bool
-    ensures { λ r. ⌜ (r ≡ true → SameFields a b) ⌝ }
-{
-    let v = a.version;
-    let w = b.version;
-    if v.number() != w.number() {
-        return false;
-    }
-    if a.dirs != b.dirs {
-        return false;
-    }
-    if a.fats != b.fats {
-        return false;
-    }
-    if a.dir != b.dir {
-        return false;
-    }
-    if a.minifat != b.minifat {
-        return false;
-    }
-    if a.minifats != b.minifats {
-        return false;
-    }
-    if a.difat != b.difat {
-        return false;
-    }
-    a.difats == b.difats
-}
-
 // Whether two headers are the same.
 pub fn same_header(a: Header, b: Header) -> bool
     ensures { λ r. ⌜ (r ≡ true → a ≡ b) ⌝ }
 {
-    if !same_fields(a, b) {
-        return false;
-    }
-    let list = a.list;
-    let other = b.list;
-    same_numbers(&list, &other)
+    alike::same_header(a, b)
 }
