@@ -26,7 +26,7 @@ use Rattle.cfb.specs.Face.{numberOf, Opens}
 use Rattle.cfb.specs.declared.Opened.{Opened}
 use Rattle.cfb.proofs.Facing.{verdict-number}
 use Rattle.layout.specs.Layout.{modeOf, headerWith, headerFrom, writtenNo, bytesLeft}
-use Rattle.layout.specs.States.{stateWords}
+use Rattle.states.specs.States.{stateWords}
 use Rattle.export.specs.Opening.{OpenGives}
 
 -- the number that a reading gives, in a mode that is named another way

@@ -11,10 +11,10 @@ use Rattle.hand.specs.Hand.{Chain}
 use Rattle.cfb.specs.Changes.{stateFrom, tablesIn, startIn, Changes, ChainResizes, ChainWrites}
 use Rattle.cfb.specs.declared.State.{State}
 use Rattle.cfb.specs.declared.Called.{Called}
-use Rattle.layout.specs.States.{stateWords, holds, heldIn}
-use Rattle.layout.specs.Answers.{answerNo, answerWords, given, heldNo}
-use Rattle.layout.proofs.Again.{header-fits, state-holds}
-use Rattle.layout.proofs.Telling.{number-of, words-of, zeros-given}
+use Rattle.states.specs.States.{stateWords, holds, heldIn}
+use Rattle.states.specs.Answers.{answerNo, answerWords, given, heldNo}
+use Rattle.states.proofs.Again.{header-fits, state-holds}
+use Rattle.states.proofs.Telling.{number-of, words-of, zeros-given}
 use Rattle.export.specs.Changes.{ChangeGives, ResizeChainGives, WriteChainGives}
 
 -- the number of a call on words that hold a state, and on words that hold none

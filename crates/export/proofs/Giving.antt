@@ -11,9 +11,9 @@ use Rattle.alloc.specs.Opening.{Tables}
 use Rattle.cfb.specs.Calls.{stateLen, chainNo, chainIds, readNo, idsLeft, ChainOpens, ChainReads}
 use Rattle.cfb.specs.declared.State.{State}
 use Rattle.cfb.specs.declared.Called.{Called}
-use Rattle.layout.specs.States.{holds, heldIn}
-use Rattle.layout.specs.Answers.{answerNo, answerWords, given}
-use Rattle.layout.proofs.Telling.{number-of, words-of, zeros-given}
+use Rattle.states.specs.States.{holds, heldIn}
+use Rattle.states.specs.Answers.{answerNo, answerWords, given}
+use Rattle.states.proofs.Telling.{number-of, words-of, zeros-given}
 use Rattle.export.specs.Chains.{chainGiven, readGiven, OpenChainGives, ReadChainGives}
 
 -- the number of a call on words that hold a state, and on words that hold none

@@ -8,8 +8,8 @@ use Rattle.lists.specs.Lists.{choose}
 use Rattle.chain.specs.Bytes.{readCount, readBytes}
 use Rattle.alloc.specs.Opening.{Tables}
 use Rattle.cfb.specs.Calls.{stateLen, chainNo, chainIds, readNo, idsLeft}
-use Rattle.layout.specs.States.{heldIn}
-use Rattle.layout.specs.Answers.{given, heldNo}
+use Rattle.states.specs.States.{heldIn}
+use Rattle.states.specs.Answers.{given, heldNo}
 
 -- the number that opening a chain ends with
 unfoldable pub chainGiven : List ℕ → List ℕ → Tables → ℕ → ℕ → ℕ

@@ -10,8 +10,8 @@ use Rattle.hand.specs.Hand.{Chain}
 use Rattle.moves.specs.Change.{resized, written}
 use Rattle.cfb.specs.Calls.{stateLen}
 use Rattle.cfb.specs.Changes.{resizeNo, writeNo, chainFrom, stateFrom, tablesIn, startIn}
-use Rattle.layout.specs.States.{stateWords, heldIn}
-use Rattle.layout.specs.Answers.{heldNo, given}
+use Rattle.states.specs.States.{stateWords, heldIn}
+use Rattle.states.specs.Answers.{heldNo, given}
 
 -- a change at the library's edge that ends with k: the number, the three words, and, where k is 0, the words of the state, image, tables and id list of the chain in hand after it; a refusal leaves all but the id list, which is zero unless k is 11
 pub record ChangeGives (words img : List ℕ) (t : Tables) (ids : List ℕ) (k : ℕ) (after : Chain) (bytes r : ℕ) (told words' img' : List ℕ) (t' : Tables) (ids' : List ℕ) : Type 0 where

@@ -6,7 +6,7 @@ use Rattle.alloc.specs.Opening.{Tables, openNo, shortest}
 use Rattle.alloc.specs.Opened.{tablesLeft}
 use Rattle.cfb.specs.Face.{tablesOf, stateOf}
 use Rattle.layout.specs.Layout.{modeOf}
-use Rattle.layout.specs.States.{stateWords}
+use Rattle.states.specs.States.{stateWords}
 
 -- an opening at the library's edge: the number, the words of the state, the image as it was, and the lent tables
 pub record OpenGives (mode : ℕ) (img : List ℕ) (used : ℕ) (t : Tables) (r : ℕ) (words img' : List ℕ) (t' : Tables) : Type 0 where

@@ -1,5 +1,2 @@
-pub mod Naming
-pub mod Placing
-pub mod Holding
-pub mod Telling
 pub mod Again
+pub mod Placing

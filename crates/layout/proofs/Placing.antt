@@ -1,9 +1,11 @@
--- A list that is put into another element by element, and the words of a header. Assumes nothing.
+-- A list that is put into another element by element, the words of a header, and its mode's number. Assumes nothing.
 use Prim.Native.Nat.{ℕ, _+_, _≤_, _<_}
 use mathlib.Core.Path.{_≡_, sym, _∙_, ap}
 use mathlib.Core.List.{List, [], _++_, append-nil}
+use mathlib.Core.Logic.{_≢_}
 use native.Mathlib.Numerals.{add-one}
 use native.Mathlib.Omega.{arith}
+use borrow.Author.Tests.{eq-eqb, ne-eqb}
 use lib.ListN.{length, getD, take, drop, set, replicate, length-drop, length-replicate, replicate-append-replicate, drop-of-length-le}
 use lib.Seq.{take-suc, take-all, length-take-le, getD-drop, take-at}
 use Rattle.lists.specs.Lists.{splice}
@@ -11,10 +13,9 @@ use Rattle.lists.proofs.Splice.{splice-whole}
 use Rattle.words.proofs.Laws.{put-more, copied-more}
 use Rattle.header.specs.Versions.{majorOf}
 use Rattle.header.specs.declared.Version.{Version}
+use Rattle.header.specs.declared.Validation.the-variants.{Permissive, Strict}
 use Rattle.header.specs.declared.Header.{Header}
-use Rattle.cfb.specs.declared.State.{State}
-use Rattle.layout.specs.Layout.{wordsOf, headerWith}
-use Rattle.layout.specs.States.{modeNumber, stateWords}
+use Rattle.layout.specs.Layout.{modeOf, wordsOf, headerWith}
 
 -- one element more of a list that goes in from place o on
 pub placed-more : (b : List ℕ) (o : ℕ) (xs : List ℕ) (i : ℕ) {l : List ℕ} → l ≡ splice b o (take i xs) → i < length xs → o + length xs ≤ length b
@@ -54,14 +55,18 @@ pub words-stored : (h : Header) {words : List ℕ} {major : ℕ} → words ≡ r
 unfolding wordsOf
 words-stored h e m = rw (e, m)
 
--- four numbers put over the zeros before a header's words are the words of a state
-pub state-stored : (s : State) {words held : List ℕ} {mode : ℕ} → held ≡ wordsOf (s .header) → words ≡ replicate 4 0 ++ held → mode ≡ modeNumber (s .mode)
-    → set (set (set (set words 0 mode) 1 (s .used)) 2 (s .sectors)) 3 (s .free) ≡ stateWords s
-unfolding stateWords
-state-stored s e w m = rw (w, e, m)
-
 -- numbers that are read at their places, and the list behind them, are the header that the words hold
 pub list-held : (v : Version) (words : List ℕ) {list : List ℕ} → list ≡ drop 8 words
     → _≡_ {A = Header} (record { version = v; dirs = getD words 1 0; fats = getD words 2 0; dir = getD words 3 0; minifat = getD words 4 0; minifats = getD words 5 0; difat = getD words 6 0; difats = getD words 7 0; list = list }) (headerWith v words)
 unfolding headerWith
 list-held v words e = rw e
+
+-- 0 is permissive
+pub mode-zero : (n : ℕ) → n ≡ 0 → Permissive ≡ modeOf n
+unfolding modeOf
+mode-zero n e = rw (eq-eqb n 0 e)
+
+-- any other number is strict
+pub mode-other : (n : ℕ) → n ≢ 0 → Strict ≡ modeOf n
+unfolding modeOf
+mode-other n ne = rw (ne-eqb n 0 ne)

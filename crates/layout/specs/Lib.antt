@@ -1,4 +1,1 @@
-pub mod Items
 pub mod Layout
-pub mod States
-pub mod Answers

@@ -1,6 +1,6 @@
 -- `rasuvelk_kind_of` meets its contract: the number of the kind that `kind_of` gives. Assumes nothing.
 use mathlib.Core.Path.{_∙_, ap}
-use Rattle.layout.specs.Items.{kindNumber}
+use Rattle.items.specs.Items.{kindNumber}
 use borrow.Author.Needs.{needs}
 use Rattle.export.proofs.rasuvelk_kind_of.Statement.{statement}
 use Rattle.export.proofs.rasuvelk_kind_of.Tie as tie

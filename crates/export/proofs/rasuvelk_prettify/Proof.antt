@@ -1,6 +1,6 @@
 -- `rasuvelk_prettify` meets its contract: the numbers of the item that `prettify` gives. Assumes nothing.
 use mathlib.Core.Path.{_∙_, ap}
-use Rattle.layout.specs.Items.{itemNumber, itemNumbers}
+use Rattle.items.specs.Items.{itemNumber, itemNumbers}
 use borrow.Author.Needs.{needs}
 use Rattle.export.proofs.rasuvelk_prettify.Statement.{statement}
 use Rattle.export.proofs.rasuvelk_prettify.Tie as tie

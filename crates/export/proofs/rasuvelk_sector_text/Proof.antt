@@ -1,7 +1,7 @@
 -- `rasuvelk_sector_text` meets its contract: the text of the item that the numbers name. Assumes nothing.
 use mathlib.Core.Path.{_∙_, ap}
 use Rattle.texts.specs.declared.Text.{Text}
-use Rattle.layout.specs.Items.{namedText}
+use Rattle.items.specs.Items.{namedText}
 use borrow.Author.Needs.{needs}
 use Rattle.export.proofs.rasuvelk_sector_text.Statement.{statement}
 use Rattle.export.proofs.rasuvelk_sector_text.Tie as tie

@@ -1,0 +1,3 @@
+pub mod Again
+pub mod Holding
+pub mod Telling
