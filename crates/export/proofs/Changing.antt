@@ -18,7 +18,7 @@ use Rattle.states.proofs.Telling.{number-of, words-of, zeros-given}
 use Rattle.export.specs.Changes.{ChangeGives, ResizeChainGives, WriteChainGives}
 
 -- the number of a call on words that hold a state, and on words that hold none
-held-number : (words : List ℕ) (k : ℕ) → holds words ≡ true → k ≡ heldNo words k
+pub held-number : (words : List ℕ) (k : ℕ) → holds words ≡ true → k ≡ heldNo words k
 unfolding heldNo
 held-number words k h = rw h
 
