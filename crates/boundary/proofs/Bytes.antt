@@ -1,21 +1,21 @@
 -- Bytes stay bytes: what a change stores is digits, bytes of sectors or the buffer, so that an image of bytes is one after it. Assumes nothing.
-use Prim.Native.Nat.{ℕ, zero, suc, _+_, _-_, _*_, _/_, _%_, _<_}
+use Prim.Native.Nat.{ℕ, zero, suc, _+_, _-_, _*_, _/_, _%_}
 use mathlib.Core.Bool.{Bool, true, false}
 use mathlib.Core.List.{List, [], _∷_, _++_, flatMap}
 use native.Mathlib.Omega.{arith}
 use lib.Dec.{eqb, ltb}
-use lib.ListN.{length, getD, take, drop, replicate, length-take, length-drop}
-use lib.Seq.{getD-take, getD-drop}
-use Rattle.lists.specs.Lists.{choose, splice, part, Below}
-use Rattle.lists.proofs.Splice.{below-append, below-replicate}
+use lib.ListN.{length, getD, take, drop, replicate}
+use Rattle.lists.specs.Lists.{choose, part, Below}
+use Rattle.lists.proofs.Splice.{below-append, below-replicate, below-take, below-drop, below-splice}
 use Rattle.words.specs.Words.{digits}
 use Rattle.words.proofs.Laws.{below-digits}
 use Rattle.consts.specs.Consts.{difatSector, fatSector, endOfChain, freeSector}
-use Rattle.fields.specs.Fields.{fatsAt, difatsAt, entriesAt, offsetOf, listBytes}
+use Rattle.fields.specs.Fields.{fatsAt, difatsAt, entriesAt, offsetOf}
 use Rattle.sectors.specs.Sectors.{startOf, sectorOf, perSector}
 use Rattle.sectors.specs.Init.{initBytes}
 use Rattle.sectors.specs.declared.init.SectorInit.{SectorInit}
 use Rattle.sectors.specs.declared.init.SectorInit.the-variants.{Zero, Fat, Difat}
+use Rattle.header.proofs.RoundTrip.{listBytes-below}
 use Rattle.fat.specs.Lists.{ceil}
 use Rattle.chain.specs.Bytes.{chainBytes}
 use Rattle.chain.specs.Stores.{putChain, writeBytes, tailOf, zeroTail}
@@ -29,36 +29,16 @@ pub chosen-so : {A : Type 0} (P : A → Type 0) (t : Bool) (x y : A) → P x →
 chosen-so P true x y p q = p
 chosen-so P false x y p q = q
 
--- parts of small numbers, and a splice of small numbers over them wherever it ends
-below-take : (m n : ℕ) (b : List ℕ) → Below m b → Below m (take n b)
-below-take m n b h = record {
-  each = λ i l.
-      let front : i < n = omega (arith, l, length-take n b) in
-      rw (getD-take n b i 0 front) (h .each i (omega (arith, l, length-take n b)));
-}
-
-below-drop : (m n : ℕ) (b : List ℕ) → Below m b → Below m (drop n b)
-below-drop m n b h = record { each = λ i l. rw (getD-drop n b i 0) (h .each (n + i) (omega (arith, l, length-drop n b))) }
-
-spliced : (m : ℕ) (b : List ℕ) (o : ℕ) (xs : List ℕ) → Below m b → Below m xs → Below m (splice b o xs)
-unfolding splice
-spliced m b o xs hb hx =
-    below-append m (take o b) _ (below-take m o b hb) (below-append m xs (drop (o + length xs) b) hx (below-drop m (o + length xs) b hb))
-
+-- no number is none too many
 no-bytes : Below 256 []
 no-bytes = record { each = λ i l. absurd (omega arith) }
 
--- the bytes of numbers, of a new sector, and of a chain's sectors
-list-bytes : (xs : List ℕ) → Below 256 (listBytes xs)
-unfolding listBytes
-list-bytes [] = no-bytes
-list-bytes (x ∷ xs) = below-append 256 (digits 4 x) (listBytes xs) (below-digits 4 x) (list-bytes xs)
-
+-- the bytes of a new sector, and of a chain's sectors
 init-bytes : (S : ℕ) (init : SectorInit) → Below 256 (initBytes S init)
 unfolding initBytes
 init-bytes S Zero = below-replicate 256 S 0 (omega arith)
-init-bytes S Fat = list-bytes (replicate (perSector S) freeSector)
-init-bytes S Difat = list-bytes (replicate (perSector S - 1) freeSector ++ (endOfChain ∷ []))
+init-bytes S Fat = listBytes-below (replicate (perSector S) freeSector)
+init-bytes S Difat = listBytes-below (replicate (perSector S - 1) freeSector ++ (endOfChain ∷ []))
 
 chain-bytes : (S : ℕ) (img ids : List ℕ) → Below 256 img → Below 256 (chainBytes S img ids)
 unfolding chainBytes flatMap sectorOf part
@@ -71,11 +51,11 @@ put-bytes : (S : ℕ) (ids img xs : List ℕ) → Below 256 img → Below 256 xs
 unfolding putChain
 put-bytes S [] img xs h k = h
 put-bytes S (i ∷ ids) img xs h k =
-    put-bytes S ids _ (drop S xs) (spliced 256 img (startOf S i) (take S xs) h (below-take 256 S xs k)) (below-drop 256 S xs k)
+    put-bytes S ids _ (drop S xs) (below-splice 256 img (startOf S i) (take S xs) h (below-take 256 S xs k)) (below-drop 256 S xs k)
 
 write-bytes : (S : ℕ) (img ids : List ℕ) (offset : ℕ) (xs : List ℕ) → Below 256 img → Below 256 xs → Below 256 (writeBytes S img ids offset xs)
 unfolding writeBytes
-write-bytes S img ids offset xs h k = put-bytes S ids img _ h (spliced 256 (chainBytes S img ids) offset xs (chain-bytes S img ids h) k)
+write-bytes S img ids offset xs h k = put-bytes S ids img _ h (below-splice 256 (chainBytes S img ids) offset xs (chain-bytes S img ids h) k)
 
 zero-bytes : (S : ℕ) (img ids : List ℕ) (o : ℕ) → Below 256 img → Below 256 (zeroTail S img ids o)
 unfolding zeroTail
@@ -94,11 +74,11 @@ pub record OnChain (c : Chain) : Type 0 where
 -- the disk's moves
 store-bytes : (d : Disk) (o : ℕ) (xs : List ℕ) → OnDisk d → Below 256 xs → OnDisk (store d o xs)
 unfolding store
-store-bytes d o xs h k = record { image = spliced 256 (d .image) o xs (h .image) k }
+store-bytes d o xs h k = record { image = below-splice 256 (d .image) o xs (h .image) k }
 
 set-bytes : (S : ℕ) (d : Disk) (i v : ℕ) → OnDisk d → OnDisk (setFat S d i v)
 unfolding setFat
-set-bytes S d i v h = record { image = spliced 256 (d .image) (entryPlace S (d .fats) i) (digits 4 v) (h .image) (below-digits 4 v) }
+set-bytes S d i v h = record { image = below-splice 256 (d .image) (entryPlace S (d .fats) i) (digits 4 v) (h .image) (below-digits 4 v) }
 
 push-bytes : (S : ℕ) (d : Disk) (v : ℕ) → OnDisk d → OnDisk (pushFat S d v)
 unfolding pushFat

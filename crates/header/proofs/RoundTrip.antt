@@ -26,7 +26,7 @@ use Rattle.header.specs.declared.Validation.{Validation}
 use Rattle.header.specs.declared.Validation.the-variants.{Strict}
 use Rattle.header.specs.declared.Header.{Header}
 use Rattle.header.proofs.Writing.{gives-0, gives-9}
-use Rattle.header.proofs.Written.{length-header, written-reads}
+use Rattle.header.proofs.Written.{written-reads}
 
 -- a reading that is accepted: the version is known, and the list is ids and then FREE
 accepted : (m : Validation) (b : List ℕ) → readNo m b ≡ 0 → (unknown (numberAt b majorAt) ≡ false) × (idsThenFree (listOf b) ≡ true)
@@ -105,7 +105,7 @@ unfolding around
 around-sized xs n low =
     record { dirs = omega arith; fats = omega arith; dir = omega arith; minifat = omega arith; minifats = omega arith; difat = omega arith; difats = omega arith; entries = n; list = low }
 
-listBytes-below : (xs : List ℕ) → Below 256 (listBytes xs)
+pub listBytes-below : (xs : List ℕ) → Below 256 (listBytes xs)
 unfolding listBytes
 listBytes-below [] = record { each = λ i h. absurd (omega arith) }
 listBytes-below (x ∷ xs) = below-append 256 (digits 4 x) (listBytes xs) (below-digits 4 x) (listBytes-below xs)
@@ -152,8 +152,7 @@ given xs n low t =
     record {
       mode = Strict;
       bytes = splice blank 0 (headerBytes (around xs));
-      small = below-splice 256 blank 0 (headerBytes (around xs)) (omega (arith, length-blank, length-header (around xs) n))
-          (unfold blank in below-replicate 256 512 0 (omega arith)) (header-below (around xs));
+      small = below-splice 256 blank 0 (headerBytes (around xs)) (unfold blank in below-replicate 256 512 0 (omega arith)) (header-below (around xs));
       read = r .0;
       gives = ap (λ (h : Header). h .list) (r .1);
     }

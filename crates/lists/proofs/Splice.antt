@@ -250,19 +250,7 @@ pub sameList-false : (a b : List ℕ) → (a ≡ b → ⊥) → sameList a b ≡
 sameList-false a b h =
     ⊎-elim (λ (t : sameList a b ≡ true). absurd (h (sameList-true a b t))) (λ (f : sameList a b ≡ false). f) (Rattle.lists.proofs.Cases.true-or (sameList a b))
 
--- a splice of small numbers over small numbers, and a part of small numbers
-pub below-splice : (m : ℕ) (b : List ℕ) (o : ℕ) (xs : List ℕ) → o + length xs ≤ length b → Below m b → Below m xs → Below m (splice b o xs)
-below-splice m b o xs fits hb hx =
-    record { each = λ i hi. at i (rw (length-splice b o xs fits) at hi) (below-or i o) (below-or i (o + length xs)) }
-  where
-    at : (i : ℕ) → i < length b → (i < o) ⊎ (o ≤ i) → (i < o + length xs) ⊎ (o + length xs ≤ i) → getD (splice b o xs) i 0 < m
-    at i hi (inl low) e = rw (splice-below b o xs fits i low) (hb .each i hi)
-    at i hi (inr high) (inl mid) =
-        let q : o + (i - o) ≡ i = omega arith in
-        let e : getD (splice b o xs) i 0 ≡ getD xs (i - o) 0 = ap (λ (r : ℕ). getD (splice b o xs) r 0) (sym q) ∙ splice-inside b o xs fits (i - o) (omega arith) in
-        rw e (hx .each (i - o) (omega arith))
-    at i hi (inr high) (inr past) = rw (splice-above b o xs fits i past) (hb .each i hi)
-
+-- small numbers behind small numbers, and the same one again and again
 pub below-append : (m : ℕ) (xs ys : List ℕ) → Below m xs → Below m ys → Below m (xs ++ ys)
 below-append m xs ys hx hy = record { each = λ i hi. at i (rw length-append at hi) (below-or i (length xs)) }
   where
@@ -276,3 +264,19 @@ below-append m xs ys hx hy = record { each = λ i hi. at i (rw length-append at 
 pub below-replicate : (m n v : ℕ) → v < m → Below m (replicate n v)
 below-replicate m n v h =
     record { each = λ i hi. let l : i < n = rw (lib.ListN.length-replicate {A = ℕ} n v) at hi in rw (lib.ListN.getD-replicate n i v 0 l) h }
+
+-- parts of small numbers, and a splice of small numbers over them wherever it ends
+pub below-take : (m n : ℕ) (b : List ℕ) → Below m b → Below m (take n b)
+below-take m n b h = record {
+  each = λ i l.
+      let front : i < n = omega (arith, l, length-take n b) in
+      rw (getD-take n b i 0 front) (h .each i (omega (arith, l, length-take n b)));
+}
+
+pub below-drop : (m n : ℕ) (b : List ℕ) → Below m b → Below m (drop n b)
+below-drop m n b h = record { each = λ i l. rw (getD-drop n b i 0) (h .each (n + i) (omega (arith, l, length-drop n b))) }
+
+pub below-splice : (m : ℕ) (b : List ℕ) (o : ℕ) (xs : List ℕ) → Below m b → Below m xs → Below m (splice b o xs)
+unfolding splice
+below-splice m b o xs hb hx =
+    below-append m (take o b) _ (below-take m o b hb) (below-append m xs (drop (o + length xs) b) hx (below-drop m (o + length xs) b hb))
