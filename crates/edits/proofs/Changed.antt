@@ -29,10 +29,10 @@ use Rattle.moves.proofs.Shrinking.{shrink-fits, shrink-ids, shrink-count, shrin
 use Rattle.moves.proofs.Changing.{chain-listed, chain-id, chain-lies, chain-writable, shrunk-writable, resized-more, resized-fewer, resize-shrink, write-covers}
 use Rattle.moves.proofs.Staying.{extend-apart}
 use Rattle.edits.specs.Roles.{Roles}
-use Rattle.edits.specs.Untouched.{Beside, Untouched, Other, Others}
+use Rattle.edits.specs.Untouched.{Beside, UnnamedFrom, Unlisted, Untouched, Other, Others}
 use Rattle.edits.proofs.Joining.{sector-stays, chain-stays, other-untouched}
 use Rattle.edits.proofs.Extended.{extended-bytes, extended-spares, extended-other}
-use Rattle.edits.proofs.Shrunk.{shrunk-untouched, shrunk-sector, shrunk-bytes, shrunk-other}
+use Rattle.edits.proofs.Shrunk.{shrunk-unlisted, shrunk-sector, shrunk-bytes, shrunk-other}
 
 -- a resize that asks for a sector more asks for more than there are
 pub resize-asks : (S : ℕ) (c : Chain) (len i : ℕ) → i < resizeMore S (c .count) len → c .count < ceil len S
@@ -55,9 +55,9 @@ others-stay S R c e f same stays keeps others o =
     (λ x hx. stays (startOf S (getD others j 0) + x) (other-untouched S e (getD others j 0) x (f .fits .disk .header) hx (keeps (getD others j 0) (o .each j l)))))
 
 -- the image holds other bytes: the lists stay
-with-untouched : (S : ℕ) (c : Chain) (img : List ℕ) (b : ℕ) → Untouched S (withImage c img) b → Untouched S c b
+with-unlisted : (S : ℕ) (c : Chain) (img : List ℕ) (b : ℕ) → Unlisted S (withImage c img) b → Unlisted S c b
 unfolding withImage
-with-untouched S c img b u = record { aside = u .aside; in-no-id = u .in-no-id }
+with-unlisted S c img b u = record { aside = u .aside; in-no-id = u .in-no-id }
 
 with-other : (S : ℕ) (c : Chain) (img : List ℕ) (i : ℕ) → Other S c i → Other S (withImage c img) i
 unfolding withImage
@@ -172,19 +172,21 @@ module _ (S R len : ℕ) (c : Chain) (f : FitsResize S R len c) where
     pub resized-holds : chainBytes S (resized S c len .hand .disk .image) (idsOf (resized S c len)) ≡ padded (take len old) (S * ceil len S)
     resized-holds = ⊎-elim (λ (l : c .count < ceil len S). grown-bytes l) (λ (g : ceil len S ≤ c .count). cut-bytes g) (below-or (c .count) (ceil len S))
 
-    -- what is untouched stays, and what belongs to others does so then
-    pub resized-spares : (b : ℕ) → Untouched S (resized S c len) b → getD (resized S c len .hand .disk .image) b 0 ≡ getD (c .hand .disk .image) b 0
-    resized-spares b u =
+    -- what is neither named nor in a listed sector stays, and what belongs to others does so then
+    pub resized-spares : (b : ℕ) → UnnamedFrom S (c .hand .disk) (resized S c len .hand .disk) b → Unlisted S (resized S c len) b
+        → getD (resized S c len .hand .disk .image) b 0 ≡ getD (c .hand .disk .image) b 0
+    resized-spares b n u =
         ⊎-elim
         (λ (l : c .count < ceil len S).
-        let u' : Untouched S (extend S c (resizeMore S (c .count) len)) b = rw (resized-more S c len l) at u in
-        rw (resized-more S c len l) (extended-spares S R (resizeMore S (c .count) len) c (f .fits) b u'))
+        let n' : UnnamedFrom S (c .hand .disk) (extend S c (resizeMore S (c .count) len) .hand .disk) b = rw (resized-more S c len l) at n in
+        let u' : Unlisted S (extend S c (resizeMore S (c .count) len)) b = rw (resized-more S c len l) at u in
+        rw (resized-more S c len l) (extended-spares S R (resizeMore S (c .count) len) c (f .fits) b n' u'))
         (λ (g : ceil len S ≤ c .count).
-        let u' : Untouched S left b = with-untouched S left _ b (rw (resized-fewer S c len g) at u) in
+        let u' : Unlisted S left b = with-unlisted S left _ b (rw (resized-fewer S c len g) at u) in
         let fits = shrink-fits S R (ceil len S) c (shrinks g) in
         rw (resized-fewer S c len g, with-image)
         (zero-apart S (left .hand .disk .image) (idsOf left) len (can-zero g) b (outside-of S R left b fits (u' .in-no-id))
-        ∙ shrunk-untouched S R (ceil len S) c (shrinks g) b u'))
+        ∙ shrunk-unlisted S R (ceil len S) c (shrinks g) b u'))
         (below-or (c .count) (ceil len S))
 
     pub resized-other : (i : ℕ) → Other S c i → Other S (resized S c len) i
@@ -218,13 +220,13 @@ module _ (S R offset : ℕ) (buf : List ℕ) (c : Chain) (f : FitsWrite S R offs
       ∙ write-chain S (wide .hand .disk .image) (idsOf wide) offset buf can-write
       ∙ ap (λ (u : List ℕ). splice u offset buf) (extended-bytes S R more c (f .fits) r)
 
-  pub written-spares : (b : ℕ) → Untouched S (written S c offset buf) b → getD (written S c offset buf .hand .disk .image) b 0 ≡ getD (c .hand .disk .image) b 0
-  unfolding written
-  written-spares b u =
-      let u' : Untouched S wide b = with-untouched S wide _ b u in
-      ap (λ (img : List ℕ). getD img b 0) (with-image wide (writeBytes S (wide .hand .disk .image) (idsOf wide) offset buf))
-      ∙ write-apart S (wide .hand .disk .image) (idsOf wide) offset buf can-write b (outside-of S R wide b wide-fits (u' .in-no-id))
-      ∙ extended-spares S R more c (f .fits) b u'
+  pub written-spares : (b : ℕ) → UnnamedFrom S (c .hand .disk) (written S c offset buf .hand .disk) b → Unlisted S (written S c offset buf) b
+      → getD (written S c offset buf .hand .disk .image) b 0 ≡ getD (c .hand .disk .image) b 0
+  unfolding written withImage
+  written-spares b n u =
+      let u' : Unlisted S wide b = with-unlisted S wide _ b u in
+      write-apart S (wide .hand .disk .image) (idsOf wide) offset buf can-write b (outside-of S R wide b wide-fits (u' .in-no-id))
+      ∙ extended-spares S R more c (f .fits) b n u'
 
   pub written-other : (i : ℕ) → Other S c i → Other S (written S c offset buf) i
   unfolding written

@@ -23,11 +23,12 @@ use Rattle.moves.proofs.Shrinking.{shrink-ids, shrink-long}
 use Rattle.moves.proofs.Changing.{resized-more, resized-fewer, resize-shrink, resized-fits, resized-count, resized-long, written-fits, written-count, written-long}
 use Rattle.edits.specs.Order.{takenAt, addedFat, addedDifat}
 use Rattle.edits.specs.Roles.{Roles, fatsHeld, difatsHeld}
-use Rattle.edits.specs.Untouched.{Beside, Untouched, Others}
+use Rattle.edits.specs.Untouched.{NotIn, Beside, Unlisted, Untouched, Others}
 use Rattle.edits.proofs.Order.{extend-ids-stay, extend-taken, extend-frees-stay, extend-frees-zero, shrink-frees-stay, shrink-freed}
-use Rattle.edits.proofs.Joining.{other-aside}
+use Rattle.edits.proofs.Named.{untouched-unnamed}
+use Rattle.edits.proofs.Joining.{sector-past, other-aside}
 use Rattle.edits.proofs.Extended.{extend-begins, extended-fats, extended-difats, extended-bytes, extended-spares, extended-other}
-use Rattle.edits.proofs.Shrunk.{shrunk-spares, shrunk-untouched, shrunk-sector, shrunk-bytes, shrunk-other}
+use Rattle.edits.proofs.Shrunk.{shrunk-spares, shrunk-unlisted, shrunk-sector, shrunk-bytes, shrunk-other}
 use Rattle.edits.proofs.Changed.{resize-asks, bytes-counted, others-stay, resized-holds, resized-spares, resized-other, freed-sector, written-holds, written-spares, written-other}
 
 -- Which sectors are taken, and in which order.
@@ -160,33 +161,36 @@ written-length S R offset buf c f =
 -- Nothing else of the image changes: a byte outside the fields of the header that document 01 names, the FAT, the DIFAT and the chain, as they are after the change, stays.
 
 pub extend-untouched : (S R m : ℕ) (c : Chain) → FitsMore S R m c → (b : ℕ) → Untouched S (extend S c m) b → getD (extend S c m .hand .disk .image) b 0 ≡ getD (c .hand .disk .image) b 0
-extend-untouched = extended-spares
+extend-untouched S R m c f b u = extended-spares S R m c f b (untouched-unnamed u) (u .unlisted)
 
 pub shrink-untouched : (S R m : ℕ) (c : Chain) → FitsShrink S R m c → (b : ℕ) → Untouched S (shrink S c m) b → getD (shrink S c m .hand .disk .image) b 0 ≡ getD (c .hand .disk .image) b 0
-shrink-untouched = shrunk-untouched
+shrink-untouched S R m c f b u = shrunk-unlisted S R m c f b (u .unlisted)
 
 pub resized-untouched : (S R len : ℕ) (c : Chain) → FitsResize S R len c → Roles S R c → (b : ℕ) → Untouched S (resized S c len) b
     → getD (resized S c len .hand .disk .image) b 0 ≡ getD (c .hand .disk .image) b 0
-resized-untouched = resized-spares
+resized-untouched S R len c f r b u = resized-spares S R len c f r b (untouched-unnamed u) (u .unlisted)
 
 pub written-untouched : (S R offset : ℕ) (buf : List ℕ) (c : Chain) → FitsWrite S R offset (length buf) c → Roles S R c → (b : ℕ) → Untouched S (written S c offset buf) b
     → getD (written S c offset buf .hand .disk .image) b 0 ≡ getD (c .hand .disk .image) b 0
-written-untouched = written-spares
+written-untouched S R offset buf c f r b u = written-spares S R offset buf c f r b (untouched-unnamed u) (u .unlisted)
 
 -- a chain that is only cut: nothing is stored but in the sectors of the FAT
 pub shrink-stores : (S R m : ℕ) (c : Chain) → FitsShrink S R m c → (b : ℕ) → ((p : ℕ) → p < fatsHeld S (c .hand .disk) → Beside S (getD (c .hand .disk .fats) p 0) b)
     → getD (shrink S c m .hand .disk .image) b 0 ≡ getD (c .hand .disk .image) b 0
 shrink-stores = shrunk-spares
 
--- Which bytes these are. Document 01: header bytes not named here,
-pub header-untouched : (S R : ℕ) (c : Chain) → FitsChain S R c → (b : ℕ) → b < S → (b < offsetOf fatsAt) ⊎ (offsetOf fatsAt + widthOf fatsAt ≤ b) → (b < offsetOf difatAt) ⊎ (512 ≤ b)
-    → Untouched S c b
-header-untouched S R c f b h count list =
+-- the header stands before every sector
+pub header-unlisted : (S : ℕ) (c : Chain) (b : ℕ) → b < S → Unlisted S c b
+header-unlisted S c b h =
     let before : (i : ℕ) → Beside S i b = λ i. inl (omega (arith, add-mul i 1 S, one-mul S, h)) in
     record {
-      aside = record { fat-field = count; difat-fields = list; in-no-fat = λ p l. before (getD (c .hand .disk .fats) p 0); in-no-difat = λ p l. before (getD (c .hand .disk .difats) p 0) };
+      aside = record { in-no-fat = λ p l. before (getD (c .hand .disk .fats) p 0); in-no-difat = λ p l. before (getD (c .hand .disk .difats) p 0) };
       in-no-id = λ p l. before (getD (c .ids) p 0);
     }
+
+-- Which bytes these are. Document 01: header bytes that no change names,
+pub header-untouched : (S R : ℕ) (c : Chain) → FitsChain S R c → (b : ℕ) → b < S → NotIn (offsetOf fatsAt) (widthOf fatsAt) b → (b < offsetOf difatAt) ⊎ (512 ≤ b) → Untouched S c b
+header-untouched S R c f b h count list = record { fat-field = count; difat-fields = list; unlisted = header-unlisted S c b h }
 
 -- and the lent image past the used length after the call,
 pub past-untouched : (S R : ℕ) (c : Chain) → FitsChain S R c → (b : ℕ) → startOf S (c .hand .disk .sectors) ≤ b → Untouched S c b
@@ -194,22 +198,28 @@ past-untouched S R c f b h =
     let past : (i : ℕ) → i < c .hand .disk .sectors → Beside S i b = λ i l. inr (omega (arith, sector-before S i (c .hand .disk .sectors) l, h)) in
     let big : 512 ≤ b = omega (arith, h, add-mul (c .hand .disk .sectors) 1 S, one-mul S, f .fits .disk .header) in
     record {
-      aside = record {
-        fat-field = inr (omega (arith, big));
-        difat-fields = inr big;
-        in-no-fat = λ p l. past (getD (c .hand .disk .fats) p 0) (f .fits .disk .fats-below p l);
-        in-no-difat = λ p l. past (getD (c .hand .disk .difats) p 0) (f .fits .disk .difats-below p l);
+      fat-field = inr (omega (arith, big));
+      difat-fields = inr big;
+      unlisted = record {
+        aside = record {
+          in-no-fat = λ p l. past (getD (c .hand .disk .fats) p 0) (f .fits .disk .fats-below p l);
+          in-no-difat = λ p l. past (getD (c .hand .disk .difats) p 0) (f .fits .disk .difats-below p l);
+        };
+        in-no-id = λ p l. past (getD (c .ids) p 0) (f .within p l);
       };
-      in-no-id = λ p l. past (getD (c .ids) p 0) (f .within p l);
     }
 
 -- and the sectors that are FREE then
 pub free-untouched : (S R : ℕ) (c : Chain) → Roles S R c → (q x : ℕ) → q < c .hand .free → x < S → Untouched S c (startOf S (getD (c .hand .frees) q 0) + x)
 free-untouched S R c r q x l h =
+    let past : 512 ≤ startOf S (getD (c .hand .frees) q 0) + x = sector-past S (getD (c .hand .frees) q 0) x (r .fits .fits .disk .header) in
     record {
-      aside = other-aside S (c .hand .disk) (getD (c .hand .frees) q 0) x (r .fits .fits .disk .header) h
-          (λ p k e. r .frees-fats q p l k (sym e)) (λ p k e. r .frees-difats q p l k (sym e));
-      in-no-id = λ p k. sector-other S (getD (c .ids) p 0) (getD (c .hand .frees) q 0) x (r .apart .ids-frees p q k l) h;
+      fat-field = inr (omega (arith, past));
+      difat-fields = inr past;
+      unlisted = record {
+        aside = other-aside S (c .hand .disk) (getD (c .hand .frees) q 0) x h (λ p k e. r .frees-fats q p l k (sym e)) (λ p k e. r .frees-difats q p l k (sym e));
+        in-no-id = λ p k. sector-other S (getD (c .ids) p 0) (getD (c .hand .frees) q 0) x (r .apart .ids-frees p q k l) h;
+      };
     }
 
 -- Document 01: freed sectors keep their bytes.
@@ -226,18 +236,18 @@ resized-freed-bytes S R len c f r i l = freed-sector S R len c f r (omega (arith
 
 pub extend-others : (S R m : ℕ) (c : Chain) → FitsMore S R m c → (others : List ℕ) → Others S c others
     → chainBytes S (extend S c m .hand .disk .image) others ≡ chainBytes S (c .hand .disk .image) others
-extend-others S R m c f = others-stay S R c (extend S c m) (f .fits) (extend-long S R m c f .hand .disk .image-same) (extended-spares S R m c f) (extended-other S R m c f)
+extend-others S R m c f = others-stay S R c (extend S c m) (f .fits) (extend-long S R m c f .hand .disk .image-same) (extend-untouched S R m c f) (extended-other S R m c f)
 
 pub shrink-others : (S R m : ℕ) (c : Chain) → FitsShrink S R m c → Roles S R c → (others : List ℕ) → Others S c others
     → chainBytes S (shrink S c m .hand .disk .image) others ≡ chainBytes S (c .hand .disk .image) others
-shrink-others S R m c f r = others-stay S R c (shrink S c m) (f .fits) (shrink-long S R m c f .hand .disk .image-same) (shrunk-untouched S R m c f) (shrunk-other S R m c f r)
+shrink-others S R m c f r = others-stay S R c (shrink S c m) (f .fits) (shrink-long S R m c f .hand .disk .image-same) (shrink-untouched S R m c f) (shrunk-other S R m c f r)
 
 pub resized-others : (S R len : ℕ) (c : Chain) → FitsResize S R len c → Roles S R c → (others : List ℕ) → Others S c others
     → chainBytes S (resized S c len .hand .disk .image) others ≡ chainBytes S (c .hand .disk .image) others
 resized-others S R len c f r =
-    others-stay S R c (resized S c len) (r .fits) (resized-long S R len c f .hand .disk .image-same) (resized-spares S R len c f r) (resized-other S R len c f r)
+    others-stay S R c (resized S c len) (r .fits) (resized-long S R len c f .hand .disk .image-same) (resized-untouched S R len c f r) (resized-other S R len c f r)
 
 pub written-others : (S R offset : ℕ) (buf : List ℕ) (c : Chain) → FitsWrite S R offset (length buf) c → Roles S R c → (others : List ℕ) → Others S c others
     → chainBytes S (written S c offset buf .hand .disk .image) others ≡ chainBytes S (c .hand .disk .image) others
 written-others S R offset buf c f r =
-    others-stay S R c (written S c offset buf) (r .fits) (written-long S R offset buf c f .hand .disk .image-same) (written-spares S R offset buf c f r) (written-other S R offset buf c f r)
+    others-stay S R c (written S c offset buf) (r .fits) (written-long S R offset buf c f .hand .disk .image-same) (written-untouched S R offset buf c f r) (written-other S R offset buf c f r)

@@ -2,7 +2,7 @@
 use Prim.Native.Nat.{ℕ, zero, suc, _+_, _-_, _*_, _≤_, _<_}
 use mathlib.Core.Path.{_≡_, refl, _∙_, sym, ap}
 use mathlib.Core.List.{List, [], _∷_, _++_, append-assoc, append-nil}
-use mathlib.Core.Logic.{⊎-elim, _≢_}
+use mathlib.Core.Logic.{inr, ⊎-elim, _≢_}
 use native.Mathlib.Omega.{arith}
 use native.Mathlib.Nat.{mul-suc, mul-zero}
 use lib.ListN.{length, getD, replicate, length-replicate, getD-replicate, replicate-append-replicate}
@@ -24,12 +24,13 @@ use Rattle.moves.proofs.Changing.{chain-listed, chain-id}
 use Rattle.moves.proofs.Staying.{ready-least, taken-other, one-ids-at, one-ids-last, one-frees-at}
 use Rattle.edits.specs.Order.{addedFat, addedDifat}
 use Rattle.edits.specs.Roles.{Roles, fatsHeld, difatsHeld}
-use Rattle.edits.specs.Untouched.{Beside, Untouched, Other}
+use Rattle.edits.specs.Untouched.{Beside, UnnamedFrom, Unlisted, Other}
 use Rattle.edits.proofs.Listed.{listed-stays, listed-none}
 use Rattle.edits.proofs.Growing.{one-grown}
+use Rattle.edits.proofs.Named.{unnamed-within, unnamed-outside}
 use Rattle.edits.proofs.Taking.{one-spares, one-zero}
 use Rattle.edits.proofs.Roles.{one-roles, one-listed}
-use Rattle.edits.proofs.Joining.{chain-append, chain-single, sector-stays, chain-stays, other-aside}
+use Rattle.edits.proofs.Joining.{chain-append, chain-single, sector-stays, chain-stays, sector-past, other-aside}
 
 -- one sector more
 module _ (S R m : ℕ) (c : Chain) (f : FitsMore S R (suc m) c) (r : Roles S R c) where
@@ -58,8 +59,9 @@ module _ (S R m : ℕ) (c : Chain) (f : FitsMore S R (suc m) c) (r : Roles S R c
       sector-stays S (c .hand .disk .image) (extendOne S c .hand .disk .image) (getD (c .ids) j 0) one-image
       (sectors-inside S R _ _ (c .hand .disk) (r .fits .fits .disk) (getD (c .ids) j 0) (omega (arith, r .fits .within j l, r .fits .fits .disk .inside)))
       (λ x hx.
-      one-spares f (startOf S (getD (c .ids) j 0) + x)
-      (other-aside S (extendOne S c .hand .disk) (getD (c .ids) j 0) x big hx
+      let past : 512 ≤ startOf S (getD (c .ids) j 0) + x = sector-past S (getD (c .ids) j 0) x big in
+      one-spares f (startOf S (getD (c .ids) j 0) + x) (unnamed-outside (inr (omega (arith, past))) (inr past))
+      (other-aside S (extendOne S c .hand .disk) (getD (c .ids) j 0) x hx
       (λ p h e. r1 .ids-fats j p low h (same ∙ sym e)) (λ p h e. r1 .ids-difats j p low h (same ∙ sym e)))
       (sector-other S (takenId S (c .hand)) (getD (c .ids) j 0) x (λ e. taken-other S R c (f .fits) (r .apart) j l (sym e)) hx))
 
@@ -184,27 +186,31 @@ extended-difats S R (suc m) c f q h l =
     (λ (k : difatsHeld S (extendOne S c .hand .disk) ≤ q). extended-difats S R m (extendOne S c) (one-fits f) q k l')
     (below-or q (difatsHeld S (extendOne S c .hand .disk))))
 
--- what is untouched after more is listed was before
-untouched-before : (S : ℕ) (c e : Chain) (b : ℕ) → Begins S c e → Untouched S e b → Untouched S c b
-untouched-before S c e b g u =
+-- what is in no listed sector after more is listed was in none before
+unlisted-before : (S : ℕ) (c e : Chain) (b : ℕ) → Begins S c e → Unlisted S e b → Unlisted S c b
+unlisted-before S c e b g u =
     record {
       aside = record {
-        fat-field = u .aside .fat-field;
-        difat-fields = u .aside .difat-fields;
         in-no-fat = λ p l. rw (← g .fats-stay p l) (u .aside .in-no-fat p (omega (arith, l, g .fats-more)));
         in-no-difat = λ p l. rw (← g .difats-stay p l) (u .aside .in-no-difat p (omega (arith, l, g .difats-more)));
       };
       in-no-id = λ p l. rw (← g .ids-stay p l) (u .in-no-id p (omega (arith, l, g .ids-more)));
     }
 
--- the bytes that are untouched stay
-pub extended-spares : (S R m : ℕ) (c : Chain) → FitsMore S R m c → (b : ℕ) → Untouched S (extend S c m) b → getD (extend S c m .hand .disk .image) b 0 ≡ getD (c .hand .disk .image) b 0
-extended-spares S R zero c f b u = rw extend-none
-extended-spares S R (suc m) c f b u =
-    let u' : Untouched S (extend S (extendOne S c) m) b = rw extend-more at u in
-    let one : Untouched S (extendOne S c) b = untouched-before S (extendOne S c) (extend S (extendOne S c) m) b (extend-begins S R m (extendOne S c) (one-fits f)) u' in
+-- the bytes that are neither named nor in a listed sector stay
+pub extended-spares : (S R m : ℕ) (c : Chain) → FitsMore S R m c → (b : ℕ) → UnnamedFrom S (c .hand .disk) (extend S c m .hand .disk) b → Unlisted S (extend S c m) b
+    → getD (extend S c m .hand .disk .image) b 0 ≡ getD (c .hand .disk .image) b 0
+extended-spares S R zero c f b n u = rw extend-none
+extended-spares S R (suc m) c f b n u =
+    let first = one-begins f in
+    let rest = extend-begins S R m (extendOne S c) (one-fits f) in
+    let n' : UnnamedFrom S (c .hand .disk) (extend S (extendOne S c) m .hand .disk) b = rw extend-more at n in
+    let u' : Unlisted S (extend S (extendOne S c) m) b = rw extend-more at u in
+    let one : Unlisted S (extendOne S c) b = unlisted-before S (extendOne S c) (extend S (extendOne S c) m) b rest u' in
     let id : Beside S (takenId S (c .hand)) b = rw (← one-ids-last S c (more-place f)) (one .in-no-id (c .count) (omega (arith, one-count S c))) in
-    rw extend-more (extended-spares S R m (extendOne S c) (one-fits f) b u' ∙ one-spares f b (one .aside) id)
+    rw extend-more
+    (extended-spares S R m (extendOne S c) (one-fits f) b (unnamed-within n' (first .fats-more) (omega arith) (first .difats-more) (omega arith)) u'
+    ∙ one-spares f b (unnamed-within n' (omega arith) (rest .fats-more) (omega arith) (rest .difats-more)) (one .aside) id)
 
 -- a sector that belongs to another does so then
 taken-not : (S R : ℕ) (c : Chain) (i : ℕ) → Other S c i → takenId S (c .hand) ≢ i

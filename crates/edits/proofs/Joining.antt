@@ -56,13 +56,15 @@ chain-stays S img after (i ∷ is) h =
     ap (λ (u : List ℕ). u ++ chainBytes S after is) (h 0 (omega arith))
     ∙ ap (λ (u : List ℕ). sectorOf S img i ++ u) (chain-stays S img after is (λ j l. h (suc j) (omega arith)))
 
--- the bytes of a sector that is neither FAT nor DIFAT stand in none of those and not in the header
-pub other-aside : (S : ℕ) (d : Disk) (i x : ℕ) → 512 ≤ S → x < S → ((p : ℕ) → p < fatsHeld S d → getD (d .fats) p 0 ≢ i)
+-- no byte of a sector stands in the header's fields
+pub sector-past : (S i x : ℕ) → 512 ≤ S → 512 ≤ startOf S i + x
+sector-past S i x big = omega (arith, add-mul i 1 S, one-mul S, big)
+
+-- the bytes of a sector that is neither FAT nor DIFAT stand in none of those
+pub other-aside : (S : ℕ) (d : Disk) (i x : ℕ) → x < S → ((p : ℕ) → p < fatsHeld S d → getD (d .fats) p 0 ≢ i)
     → ((p : ℕ) → p < difatsHeld S d → getD (d .difats) p 0 ≢ i) → Aside S d (startOf S i + x)
-other-aside S d i x big l no-fat no-difat =
+other-aside S d i x l no-fat no-difat =
     record {
-      fat-field = inr (omega (arith, add-mul i 1 S, one-mul S, big));
-      difat-fields = inr (omega (arith, add-mul i 1 S, one-mul S, big));
       in-no-fat = λ p h. sector-other S (getD (d .fats) p 0) i x (no-fat p h) l;
       in-no-difat = λ p h. sector-other S (getD (d .difats) p 0) i x (no-difat p h) l;
     }
@@ -71,6 +73,7 @@ other-aside S d i x big l no-fat no-difat =
 pub other-untouched : (S : ℕ) (c : Chain) (i x : ℕ) → 512 ≤ S → x < S → Other S c i → Untouched S c (startOf S i + x)
 other-untouched S c i x big l o =
     record {
-      aside = other-aside S (c .hand .disk) i x big l (o .no-fat) (o .no-difat);
-      in-no-id = λ p h. sector-other S (getD (c .ids) p 0) i x (o .no-id p h) l;
+      fat-field = inr (omega (arith, sector-past S i x big));
+      difat-fields = inr (sector-past S i x big);
+      unlisted = record { aside = other-aside S (c .hand .disk) i x l (o .no-fat) (o .no-difat); in-no-id = λ p h. sector-other S (getD (c .ids) p 0) i x (o .no-id p h) l };
     }

@@ -6,6 +6,7 @@ pub mod Freed
 pub mod Growing
 pub mod Joining
 pub mod Listed
+pub mod Named
 pub mod Order
 pub mod Roles
 pub mod Shrunk

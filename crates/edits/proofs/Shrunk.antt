@@ -20,7 +20,7 @@ use Rattle.hand.proofs.Freeing.{free-none, free-more, frees-more}
 use Rattle.moves.proofs.Shrinking.{shrink-none, shrink-some, shrink-last, shrink-frees, shrink-count, shrink-ids, shrink-idsOf, shrink-fits, shrink-long, shrink-place}
 use Rattle.moves.proofs.Changing.{chain-lies}
 use Rattle.edits.specs.Roles.{Roles}
-use Rattle.edits.specs.Untouched.{Untouched, Other}
+use Rattle.edits.specs.Untouched.{Unlisted, Other}
 use Rattle.edits.proofs.Growing.{SameLists, linked-lists}
 use Rattle.edits.proofs.Freed.{free-one-lists}
 use Rattle.edits.proofs.Taking.{NoFat, point-spares, linked-spares}
@@ -57,9 +57,9 @@ module _ (S R m : ℕ) (c : Chain) (f : FitsShrink S R m c) where
       (λ (g : c .count ≤ m). rw (shrink-none S c m g))
       (below-or m (c .count))
 
-  -- the bytes that are untouched stay
-  pub shrunk-untouched : (b : ℕ) → Untouched S (shrink S c m) b → getD (shrink S c m .hand .disk .image) b 0 ≡ getD (c .hand .disk .image) b 0
-  shrunk-untouched b u =
+  -- the bytes that are in no listed sector stay
+  pub shrunk-unlisted : (b : ℕ) → Unlisted S (shrink S c m) b → getD (shrink S c m .hand .disk .image) b 0 ≡ getD (c .hand .disk .image) b 0
+  shrunk-unlisted b u =
       let s = shrink-lists S R m c f in
       shrunk-spares b (λ p l. rw (← s .fats) (u .aside .in-no-fat p (rw (s .sectors) l)))
 

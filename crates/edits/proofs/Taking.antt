@@ -1,4 +1,4 @@
--- The bytes of an image after a sector is taken: the sector is zero, and what stands outside the header's fields, the FAT, the DIFAT and the sector stays. Assumes nothing.
+-- The bytes of an image after a sector is taken: the sector is zero, and what stands outside the header bytes that document 01 names, the FAT, the DIFAT and the sector stays. Assumes nothing.
 use Prim.Native.Nat.{ℕ, suc, _+_, _-_, _/_, _%_, _≤_, _<_}
 use mathlib.Core.Path.{_≡_, refl, _∙_, sym, ap}
 use mathlib.Core.Bool.{true, false}
@@ -28,11 +28,12 @@ use Rattle.hand.specs.Hand.{Hand, Chain, point, takenId, takeSector, linked, ex
 use Rattle.hand.specs.Fits.{FitsHand, FitsMore}
 use Rattle.hand.proofs.Taking.{take-none, take-one, id-new, id-last}
 use Rattle.hand.proofs.Linking.{linked-none, linked-last, more-room, more-last, more-taken}
-use Rattle.edits.specs.Untouched.{Beside, Spared, Aside}
+use Rattle.edits.specs.Untouched.{Beside, UnnamedFrom, Spared, Aside}
 use Rattle.edits.specs.Roles.{fatsHeld, difatsHeld}
 use Rattle.edits.proofs.Listed.{listed-stays}
 use Rattle.edits.proofs.Growing.{needs-far, append-fats, append-difats-more, append-grown-fat, append-grown-difat, new-fats, reused-lists, SameLists, linked-lists}
-use Rattle.edits.proofs.Sparing.{Moved, moved-then, moved-none, number-moved, init-moved, set-moved, push-moved, grow-moved, place-moved}
+use Rattle.edits.proofs.Named.{unnamed-within}
+use Rattle.edits.proofs.Sparing.{Moved, Names, moved-then, moved-none, number-moved, init-moved, set-moved, push-moved, grow-moved, place-moved}
 
 -- the same by equal lists
 pub spared-at : {S : ℕ} {fats fats' : List ℕ} {k k' : ℕ} {difats difats' : List ℕ} {j j' b : ℕ} → fats ≡ fats' → k ≡ k' → difats ≡ difats' → j ≡ j' → Spared S fats k difats j b
@@ -100,28 +101,30 @@ module _ (P : ℕ → Type 0) (S R : ℕ) (d : Disk) (f : FitsFat S R d) where
         moved-then P S R _ _ _ _ d (fatNew S d) (fatMarked S d) (init-moved P S R _ _ d (full-fits S R d f) (d .sectors) Fat (full-room S R d f) beside-self) (λ g.
         grow-moved P S R place _ (fatNew S d) g fatSector refl (full-room S R d f) beside-self)
 
-    pub fat-moved : Moved P S R (suc place) (difatCount S (suc place)) d (appendFat S d)
+    pub fat-moved : Names P S place → Moved P S R (suc place) (difatCount S (suc place)) d (appendFat S d)
     unfolding appendFat store pushFat listFat
-    fat-moved =
+    fat-moved fields =
         moved-then P S R (suc place) (difatCount S place) (suc place) (difatCount S (suc place)) d (fatMarked S d) (appendFat S d) marked-moved (λ g.
         moved-then P S R (suc place) (difatCount S (suc place)) (suc place) (difatCount S (suc place)) (fatMarked S d) (listPlace S (fatMarked S d) place (d .sectors)) (appendFat S d)
         (place-moved P S R (suc place) place (fatMarked S d) (d .sectors) (full-place S R d f) (omega (arith, marked-same S R d f)) (marked-room S R d f) g
-        (λ b p. aside b p .difat-fields) beside-difat beside-entry beside-difats beside-held) (λ h.
+        fields beside-difat beside-entry beside-difats beside-held) (λ h.
         number-moved P S R (suc place) (difatCount S (suc place)) (listPlace S (fatMarked S d) place (d .sectors)) h (offsetOf fatsAt) (place + 1)
-        (omega (arith, header-inside S R _ _ (listPlace S (fatMarked S d) place (d .sectors)) h, h .header)) (λ b p. aside b p .fat-field)))
+        (omega (arith, header-inside S R _ _ (listPlace S (fatMarked S d) place (d .sectors)) h, h .header)) (λ b p. fields b p .fat-count (omega arith))))
 
 -- document 01: a new sector becomes a chain's last one
-module _ (P : ℕ → Type 0) (S R : ℕ) (d : Disk) (f : FitsNew S R d) (aside : (b : ℕ) → P b → Aside S (newSector S d) b)
-    (self : (b : ℕ) → P b → Beside S (ready S d .sectors) b) where
+module _ (P : ℕ → Type 0) (S R : ℕ) (d : Disk) (f : FitsNew S R d) (fields : (b : ℕ) → P b → UnnamedFrom S d (newSector S d) b)
+    (aside : (b : ℕ) → P b → Aside S (newSector S d) b) (self : (b : ℕ) → P b → Beside S (ready S d .sectors) b) where
   ready-moved : Moved P S R (fatCount S (oneMore S (d .sectors))) (difatCount S (fatCount S (oneMore S (d .sectors)))) d (ready S d)
   ready-moved =
       ⊎-elim
       (λ (e : d .sectors % perSector S ≡ 0).
       let full : ready S d ≡ appendFat S d = ready-full S d e in
+      let was : fatsHeld S d ≡ d .sectors / perSector S = fat-full S (d .sectors) (omega (arith, f .fits .holds .two)) e in
       let k : fatsHeld S (newSector S d) ≡ suc (d .sectors / perSector S) = ap (fatCount S) (new-sectors S d) ∙ count-full S R d f e in
       rw (count-full S R d f e, full)
       (fat-moved P S R d (new-full S R d f e)
-      (λ b p. spared-at (new-fats S d .0 ∙ ap (λ (x : Disk). x .fats) full) k (new-fats S d .1 ∙ ap (λ (x : Disk). x .difats) full) (ap (difatCount S) k) (aside b p))))
+      (λ b p. spared-at (new-fats S d .0 ∙ ap (λ (x : Disk). x .fats) full) k (new-fats S d .1 ∙ ap (λ (x : Disk). x .difats) full) (ap (difatCount S) k) (aside b p))
+      (λ b p. unnamed-within (fields b p) (omega (arith, was)) (omega (arith, k)) (omega (arith, ap (difatCount S) was)) (omega (arith, ap (difatCount S) k)))))
       (λ (e : d .sectors % perSector S ≢ 0). rw (count-part S R d f e, ready-part S d e) (moved-none P S R _ _ d (f .fits)))
       (same-or (d .sectors % perSector S) 0)
 
@@ -172,14 +175,17 @@ module _ (S R : ℕ) (h : Hand) (f : FitsHand S R h) (room : h .free ≡ 0 → o
   last-of : h .free ≢ 0 → getD (h .frees) (h .free - 1) 0 < h .disk .sectors
   last-of e = f .frees-below (h .free - 1) (omega (arith, e))
 
-  pub take-spares : (b : ℕ) → Aside S (takeSector S h .disk) b → Beside S (takenId S h) b → getD (takeSector S h .disk .image) b 0 ≡ getD (h .disk .image) b 0
-  take-spares b a s =
+  pub take-spares : (b : ℕ) → UnnamedFrom S (h .disk) (takeSector S h .disk) b → Aside S (takeSector S h .disk) b → Beside S (takenId S h) b
+      → getD (takeSector S h .disk .image) b 0 ≡ getD (h .disk .image) b 0
+  take-spares b n a s =
       ⊎-elim
       (λ (e : h .free ≡ 0).
+      let n' : UnnamedFrom S (h .disk) (newSector S (h .disk)) b = rw (take-none S h e) at n in
       let a' : Aside S (newSector S (h .disk)) b = rw (take-none S h e) at a in
       let s' : Beside S (ready S (h .disk) .sectors) b = rw (id-new S h e) at s in
       rw (take-none S h e)
-      (new-moved (λ x. Aside S (newSector S (h .disk)) x × Beside S (ready S (h .disk) .sectors) x) S R (h .disk) (new-of e) (λ x p. p .0) (λ x p. p .1) .spares b (a', s')))
+      (new-moved (λ x. UnnamedFrom S (h .disk) (newSector S (h .disk)) x × Aside S (newSector S (h .disk)) x × Beside S (ready S (h .disk) .sectors) x) S R (h .disk) (new-of e)
+      (λ x p. p .0) (λ x p. p .1) (λ x p. p .2) .spares b (n', a', s')))
       (λ (e : h .free ≢ 0).
       let id : ℕ = getD (h .frees) (h .free - 1) 0 in
       let a' : Aside S (reused S (h .disk) id) b = rw (take-one S h e) at a in
@@ -224,12 +230,15 @@ module _ {S R m : ℕ} {c : Chain} (f : FitsMore S R (suc m) c) where
   taken-no-fat : (b : ℕ) → NoFat S (extendOne S c .hand .disk) b → NoFat S (takeSector S (c .hand) .disk) b
   taken-no-fat b n p l = rw (← link-lists .fats) (n p (rw (link-lists .sectors) l))
 
-  pub one-spares : (b : ℕ) → Aside S (extendOne S c .hand .disk) b → Beside S (takenId S (c .hand)) b → getD (extendOne S c .hand .disk .image) b 0 ≡ getD (c .hand .disk .image) b 0
+  pub one-spares : (b : ℕ) → UnnamedFrom S (c .hand .disk) (extendOne S c .hand .disk) b → Aside S (extendOne S c .hand .disk) b → Beside S (takenId S (c .hand)) b
+      → getD (extendOne S c .hand .disk .image) b 0 ≡ getD (c .hand .disk .image) b 0
   unfolding extendOne
-  one-spares b a s =
+  one-spares b n a s =
       let k : fatsHeld S (extendOne S c .hand .disk) ≡ fatsHeld S (takeSector S (c .hand) .disk) = ap (fatCount S) (link-lists .sectors) in
       linked-spares S R (takeSector S (c .hand)) (c .ids) (c .count) (takenId S (c .hand)) (more-taken f) (more-last f) b (taken-no-fat b (a .in-no-fat))
-      ∙ take-spares S R (c .hand) (f .fits .fits) (more-room f) b (spared-at (link-lists .fats) k (link-lists .difats) (ap (difatCount S) k) a) s
+      ∙ take-spares S R (c .hand) (f .fits .fits) (more-room f) b
+      (unnamed-within n (omega arith) (omega (arith, k)) (omega arith) (omega (arith, ap (difatCount S) k)))
+      (spared-at (link-lists .fats) k (link-lists .difats) (ap (difatCount S) k) a) s
 
   pub one-zero : (x : ℕ) → x < S → NoFat S (extendOne S c .hand .disk) (startOf S (takenId S (c .hand)) + x)
       → getD (extendOne S c .hand .disk .image) (startOf S (takenId S (c .hand)) + x) 0 ≡ 0

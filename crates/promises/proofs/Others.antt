@@ -90,7 +90,7 @@ extend-entries S R zero c f x a = rw extend-none refl
 extend-entries S R (suc m) c f x a = rw extend-more (extend-entries S R m (extendOne S c) (one-fits f) x (one-aloof S R m c f x a) ∙ one-entry S R m c f x a)
 
 -- document 01: a chain that grows leaves no fewer sectors
-pub extend-least : (S m : ℕ) (c : Chain) → c .hand .disk .sectors ≤ extend S c m .hand .disk .sectors
+extend-least : (S m : ℕ) (c : Chain) → c .hand .disk .sectors ≤ extend S c m .hand .disk .sectors
 extend-least S zero c = rw extend-none (omega arith)
 extend-least S (suc m) c = rw extend-more (omega (arith, extend-least S m (extendOne S c), one-sectors S c, take-sectors-grow S (c .hand)))
 
