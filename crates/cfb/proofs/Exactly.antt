@@ -18,7 +18,7 @@ use Rattle.header.specs.declared.Validation.the-variants.{Permissive, Strict}
 use Rattle.judge.specs.Judge.{pointed}
 use Rattle.judge.proofs.Judging.{pointed-by, pointer-of}
 use Rattle.alloc.specs.Opening.{Tables}
-use Rattle.disk.specs.Needed.{resizeMore, writeMore}
+use Rattle.room.specs.Needed.{resizeMore, writeMore}
 use Rattle.cfb.specs.Calls.{stateLen, agreedRows, walkRows, chainRows, chainIds}
 use Rattle.cfb.specs.Causes.{stateFat, ChainCause, order, ChangeCause, ResizeCause, WriteCause}
 use Rattle.cfb.specs.Changes.{startPointed, changeRows, noRoom, resizeRows, resizeNo, writeRows, writeNo}

@@ -14,7 +14,7 @@ use Rattle.lists.proofs.Rows.{stop, pass, append-given, append-none, append-acc
 use Rattle.alloc.specs.Opening.{Tables}
 use Rattle.walk.specs.declared.Walked.{Walked}
 use Rattle.walk.specs.declared.Walked.the-variants.{Listed, Refused}
-use Rattle.disk.specs.Needed.{resizeMore, writeMore}
+use Rattle.room.specs.Needed.{resizeMore, writeMore}
 use Rattle.cfb.specs.Calls.{stateLen, agreedRows, walkRows, chainIds, idsLeft}
 use Rattle.cfb.specs.Changes.{changeRows, changeNo, noRoom, resizeRows, resizeNo, writeRows, writeNo, Listing, Judged}
 use Rattle.cfb.specs.Listed.{walkedAs}

@@ -12,7 +12,7 @@ use Rattle.fat.specs.Lists.{roomOf}
 use Rattle.alloc.specs.Opening.{Tables, shortest}
 use Rattle.agree.specs.Agrees.{Agrees}
 use Rattle.walk.specs.Steps.{Breaks, Returns}
-use Rattle.disk.specs.Needed.{resizeMore, writeMore}
+use Rattle.room.specs.Needed.{resizeMore, writeMore}
 use Rattle.disk.specs.Disk.{countAfter}
 use Rattle.cfb.specs.Calls.{stateLen, chainIds}
 use Rattle.cfb.specs.declared.State.{State}

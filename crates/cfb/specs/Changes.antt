@@ -15,7 +15,7 @@ use Rattle.judge.specs.Judge.{pointed}
 use Rattle.alloc.specs.Opening.{Tables}
 use Rattle.alloc.specs.Opened.{padded}
 use Rattle.disk.specs.Disk.{countAfter}
-use Rattle.disk.specs.Needed.{resizeMore, writeMore}
+use Rattle.room.specs.Needed.{resizeMore, writeMore}
 use Rattle.hand.specs.Hand.{Chain}
 use Rattle.moves.specs.Change.{resized, written}
 use Rattle.walk.specs.declared.Walked.{Walked}

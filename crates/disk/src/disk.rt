@@ -68,7 +68,7 @@ fn append_difat_sector(
 }
 
 // Whether place p of the DIFAT is in a DIFAT sector, and none of those that p places need has it.
-pub(crate) fn needs_difat(s: usize, p: usize) -> bool
+pub fn needs_difat(s: usize, p: usize) -> bool
     requires { ⌜ (512 ≤ s) × (s ≤ 65536) × (p ≤ most) ⌝ }
     ensures { λ r. ⌜ r ≡ needsDifatOf s p ⌝ }
 {

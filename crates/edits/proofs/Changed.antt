@@ -18,9 +18,9 @@ use Rattle.chain.specs.Stores.{writeBytes, tailOf, zeroTail, Writable, Outside}
 use Rattle.chain.proofs.Bytes.{length-chain}
 use Rattle.chain.proofs.Stored.{write-chain, write-apart}
 use Rattle.chain.proofs.Zeroed.{tail-none, tail-some, zero-chain, zero-apart, zero-sector}
-use Rattle.disk.specs.Needed.{resizeMore, writeMore}
+use Rattle.room.specs.Needed.{resizeMore, writeMore}
 use Rattle.disk.proofs.Keeping.{sectors-inside}
-use Rattle.disk.proofs.Needing.{ceil-whole, ceil-part, ceil-within}
+use Rattle.room.proofs.Needing.{ceil-whole, ceil-part, ceil-within}
 use Rattle.hand.specs.Hand.{Chain, extend}
 use Rattle.hand.specs.Fits.{FitsChain}
 use Rattle.moves.specs.Change.{shrink, withImage, idsOf, resized, written, FitsShrink, FitsResize, FitsWrite}

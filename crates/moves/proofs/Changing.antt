@@ -16,8 +16,8 @@ use Rattle.chain.specs.Bytes.{Lies}
 use Rattle.chain.specs.Stores.{writeBytes, zeroTail, Writable}
 use Rattle.chain.proofs.Stored.{write-length, write-none}
 use Rattle.chain.proofs.Zeroed.{zero-length}
-use Rattle.disk.specs.Needed.{resizeMore, writeMore}
-use Rattle.disk.proofs.Needing.{write-within}
+use Rattle.room.specs.Needed.{resizeMore, writeMore}
+use Rattle.room.proofs.Needing.{write-within}
 use Rattle.hand.specs.Hand.{Hand, Chain, extend}
 use Rattle.hand.specs.Fits.{FitsChain, FitsMore}
 use Rattle.moves.specs.Change.{shrink, withImage, idsOf, resized, written, Apart, FitsShrink, FitsResize, FitsWrite}

@@ -8,7 +8,7 @@ use lib.ListN.{length, getD}
 use lib.Seq.{getD-set-same, getD-set-other}
 use Rattle.lists.proofs.Cases.{same-or}
 use Rattle.disk.specs.Disk.{Disk, ready}
-use Rattle.disk.proofs.Needing.{one-more-between}
+use Rattle.room.proofs.Needing.{one-more-between}
 use Rattle.disk.proofs.Fitting.{ready-sectors}
 use Rattle.hand.specs.Hand.{Hand, Chain, point, linked, takenId, takeSector, extendOne, extend}
 use Rattle.hand.specs.Fits.{FitsChain, FitsMore}

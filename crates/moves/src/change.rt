@@ -2,10 +2,10 @@
 use crate::extend::extend_by;
 use chain::stores::write as write_bytes;
 use chain::stores::zero_tail;
-use disk::room::sectors_for;
-use disk::room::sectors_past;
 use hand::free_run;
 use hand::link_last;
+use room::sectors_for;
+use room::sectors_past;
 ghost use mathlib.Core.Path.{_≡_};
 ghost use mathlib.Core.List.{List};
 ghost use Prim.Native.Nat.{ℕ, _+_, _-_};

@@ -15,7 +15,7 @@ use Rattle.alloc.specs.Opened.{padded}
 use Rattle.walk.specs.Walk.{lists, walkOf}
 use Rattle.chain.specs.Bytes.{chainBytes}
 use Rattle.hand.specs.Hand.{Chain}
-use Rattle.disk.specs.Needed.{resizeMore, writeMore}
+use Rattle.room.specs.Needed.{resizeMore, writeMore}
 use Rattle.moves.specs.Change.{resized, written, idsOf, FitsResize, FitsWrite}
 use Rattle.moves.proofs.Changing.{resized-fits, written-fits}
 use Rattle.edits.specs.Roles.{Roles}

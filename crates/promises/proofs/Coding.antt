@@ -23,7 +23,7 @@ use Rattle.chain.proofs.Stored.{write-length, write-apart}
 use Rattle.chain.proofs.Zeroed.{zero-length, zero-apart}
 use Rattle.disk.specs.Disk.{Disk, store, setFat, pushFat, listFat, listDifat, appendDifat, needsDifat, storePlace, holdPlace, listPlace, appendFat, oneMore, ready, newSector, reused}
 use Rattle.disk.specs.Fits.{FitsFat, FitsNew}
-use Rattle.disk.specs.Needed.{resizeMore, writeMore}
+use Rattle.room.specs.Needed.{resizeMore, writeMore}
 use Rattle.disk.proofs.Counting.{fat-full, difat-none, difat-suc, needs-full, needs-not}
 use Rattle.disk.proofs.Keeping.{each-many, sectors-inside}
 use Rattle.disk.proofs.Fitting.{difatNew, difatMarked, full-many, full-room, full-place, marked-room, ready-full, ready-part, new-full, ready-room, ready-has, count-full, count-part, new-sectors}

@@ -9,7 +9,7 @@ use lib.Seq.{getD-set-other, length-take-le}
 use Rattle.lists.proofs.Cases.{below-or}
 use Rattle.fat.specs.Lists.{ceil}
 use Rattle.alloc.specs.Opening.{Tables}
-use Rattle.disk.specs.Needed.{resizeMore, writeMore}
+use Rattle.room.specs.Needed.{resizeMore, writeMore}
 use Rattle.hand.specs.Hand.{Chain, takenId, extendOne, extend}
 use Rattle.moves.specs.Change.{shrink, withImage, resized, written, FitsShrink, FitsResize}
 use Rattle.moves.proofs.Extending.{extend-none, extend-more}

@@ -8,7 +8,7 @@ use lib.ListN.{length, getD}
 use Rattle.lists.proofs.Cases.{below-or, same-or}
 use Rattle.consts.specs.Consts.{difatSector, fatSector, freeSector}
 use Rattle.fat.specs.Lists.{ceil}
-use Rattle.disk.specs.Needed.{resizeMore, writeMore}
+use Rattle.room.specs.Needed.{resizeMore, writeMore}
 use Rattle.hand.specs.Hand.{Hand, Chain, takenId, takeSector, extendOne, extend}
 use Rattle.hand.specs.Fits.{FitsMore}
 use Rattle.moves.specs.Change.{shrink, withImage, resized, written, FitsResize, FitsWrite}

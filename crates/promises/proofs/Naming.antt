@@ -10,7 +10,7 @@ use Rattle.lists.proofs.Cases.{below-or}
 use Rattle.consts.specs.Consts.{endOfChain, freeSector}
 use Rattle.fat.specs.Lists.{ceil, roomOf}
 use Rattle.alloc.specs.Opening.{Tables}
-use Rattle.disk.specs.Needed.{resizeMore, writeMore}
+use Rattle.room.specs.Needed.{resizeMore, writeMore}
 use Rattle.walk.specs.Walk.{Outcome, lists, refuses}
 use Rattle.walk.proofs.Chains.{getD-any, lists-exactly}
 use Rattle.hand.specs.Hand.{Chain}

@@ -14,7 +14,7 @@ use Rattle.walk.specs.Steps.{Linked}
 use Rattle.walk.specs.Walk.{lists, walkOf}
 use Rattle.walk.proofs.Chains.{getD-any, lists-exactly}
 use Rattle.chain.specs.Bytes.{chainBytes}
-use Rattle.disk.specs.Needed.{resizeMore, writeMore}
+use Rattle.room.specs.Needed.{resizeMore, writeMore}
 use Rattle.hand.specs.Hand.{Hand, Chain, takenId, takeSector, linked, extendOne, extend}
 use Rattle.hand.specs.Fits.{FitsChain, FitsMore}
 use Rattle.moves.specs.Change.{shrink, withImage, resized, written, FitsShrink, FitsResize, FitsWrite}

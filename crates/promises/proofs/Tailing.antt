@@ -13,7 +13,7 @@ use Rattle.sectors.specs.Sectors.{perSector}
 use Rattle.fat.specs.Lists.{ceil, fatCount, difatCount}
 use Rattle.disk.specs.Disk.{Disk, store, setFat, pushFat, needsDifat, appendFat, afterFat, oneMore, ready, newSector, reused}
 use Rattle.disk.specs.Fits.{FitsNew}
-use Rattle.disk.specs.Needed.{resizeMore, writeMore}
+use Rattle.room.specs.Needed.{resizeMore, writeMore}
 use Rattle.disk.proofs.Counting.{difat-suc, after-needs, after-not}
 use Rattle.disk.proofs.Fitting.{append-sectors, ready-full, ready-part, new-many, new-sectors, count-full, reused-sectors, one-more-grows}
 use Rattle.hand.specs.Hand.{Hand, Chain, marked, point, takenId, takeSector, freeSectorOf, freeRun, linked, extendOne, extend}

@@ -15,7 +15,7 @@ use Rattle.alloc.specs.Opened.{padded, tablesLeft}
 use Rattle.agree.specs.Agrees.{Permuted}
 use Rattle.walk.specs.Walk.{lists}
 use Rattle.chain.specs.Bytes.{chainBytes}
-use Rattle.disk.specs.Needed.{writeMore}
+use Rattle.room.specs.Needed.{writeMore}
 use Rattle.hand.specs.Hand.{Chain}
 use Rattle.moves.specs.Change.{resized, written}
 use Rattle.edits.specs.Roles.{fatsHeld, difatsHeld}

@@ -2,7 +2,7 @@
 use mathlib.Core.Path.{_≡_, sym, _∙_, ap}
 use native.Mathlib.Omega.{arith}
 use Rattle.walk.specs.declared.Walked.the-variants.{Listed}
-use Rattle.disk.specs.Needed.{resizeMore}
+use Rattle.room.specs.Needed.{resizeMore}
 use Rattle.cfb.specs.Changes.{noRoom}
 use Rattle.cfb.proofs.Fitted.{length-least, length-most}
 use Rattle.cfb.proofs.Judging.{resize-early, resize-full, resize-listed}

@@ -2,7 +2,7 @@
 use mathlib.Core.Path.{_≡_, sym, _∙_, ap}
 use native.Mathlib.Omega.{arith}
 use Rattle.walk.specs.declared.Walked.the-variants.{Listed}
-use Rattle.disk.specs.Needed.{writeMore}
+use Rattle.room.specs.Needed.{writeMore}
 use Rattle.cfb.specs.Changes.{noRoom}
 use Rattle.cfb.proofs.Fitted.{length-least, length-most}
 use Rattle.cfb.proofs.Judging.{write-early, write-past, write-full, write-listed}

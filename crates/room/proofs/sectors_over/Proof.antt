@@ -1,8 +1,8 @@
 -- What the chain has sectors for asks for none.
-use Rattle.disk.proofs.Needing.{resize-within, resize-over}
+use Rattle.room.proofs.Needing.{resize-within, resize-over}
 use borrow.Author.Needs.{needs}
-use Rattle.disk.proofs.room.sectors_over.Statement.{statement}
-use Rattle.disk.proofs.room.sectors_over.Tie as tie
+use Rattle.room.proofs.sectors_over.Statement.{statement}
+use Rattle.room.proofs.sectors_over.Tie as tie
 
 sectors-for-requires : tie.Need-sectors-for-requires
 sectors-for-requires c κs = search needs

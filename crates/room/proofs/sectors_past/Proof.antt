@@ -1,10 +1,10 @@
 -- What stays within the chain asks for none; else what is over is rounded up.
 use mathlib.Core.Path.{_∙_}
 use native.Mathlib.Omega.{arith}
-use Rattle.disk.proofs.Needing.{write-within, write-over}
+use Rattle.room.proofs.Needing.{write-within, write-over}
 use borrow.Author.Needs.{needs}
-use Rattle.disk.proofs.room.sectors_past.Statement.{statement}
-use Rattle.disk.proofs.room.sectors_past.Tie as tie
+use Rattle.room.proofs.sectors_past.Statement.{statement}
+use Rattle.room.proofs.sectors_past.Tie as tie
 
 mul-rest : tie.Need-mul-rest
 mul-rest c = search needs

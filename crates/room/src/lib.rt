@@ -1,11 +1,11 @@
 // What a change needs, known before its first store (document 01, 24), for every length and offset, with no sum that can wrap.
-use crate::disk::needs_difat;
+use disk::disk::needs_difat;
 ghost use mathlib.Core.Path.{_≡_};
 ghost use Prim.Native.Nat.{_*_, _≤_, _<_};
 ghost use lib.Dec.{leb};
 ghost use Rattle.fat.specs.Lists.{most, ceil as ceilOf};
-ghost use Rattle.disk.specs.Needed.{resizeMore, writeMore};
+ghost use Rattle.room.specs.Needed.{resizeMore, writeMore};
 ghost use Rattle.disk.specs.Disk.{oneMore, countAfter};
 
 // How many sectors so many bytes ask for: whole ones, and one more for what is left. S - 1 is added to what is left alone, so that no sum can wrap.
 pub fn sectors_for(s: usize, bytes: u64) -> usize

@@ -3,9 +3,9 @@ use Prim.Native.Nat.{ℕ, _-_}
 use mathlib.Core.Path.{sym, ap}
 use native.Mathlib.Omega.{arith}
 use lib.Dec.{leb}
-use Rattle.disk.proofs.Needing.{Counts, counts-begun, counts-on, counts-over, counts-past}
-use Rattle.disk.proofs.room.has_room.Statement.{statement}
-use Rattle.disk.proofs.room.has_room.Tie as tie
+use Rattle.room.proofs.Needing.{Counts, counts-begun, counts-on, counts-over, counts-past}
+use Rattle.room.proofs.has_room.Statement.{statement}
+use Rattle.room.proofs.has_room.Tie as tie
 
 abbrev Inv-loop : tie.InvT-loop
 Inv-loop s n more room count₀ i₀ count i = Counts s n more room count i

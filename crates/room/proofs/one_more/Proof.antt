@@ -2,10 +2,10 @@
 use Prim.Native.Nat.{_/_}
 use mathlib.Core.Path.{sym, _∙_}
 use native.Mathlib.Omega.{arith}
-use Rattle.disk.proofs.Needing.{quotient-times, one-more-data, one-more-fat, one-more-difat}
+use Rattle.room.proofs.Needing.{quotient-times, one-more-data, one-more-fat, one-more-difat}
 use borrow.Author.Needs.{needs}
-use Rattle.disk.proofs.room.one_more.Statement.{statement}
-use Rattle.disk.proofs.room.one_more.Tie as tie
+use Rattle.room.proofs.one_more.Statement.{statement}
+use Rattle.room.proofs.one_more.Tie as tie
 
 rem-if1 : tie.Need-rem-if1
 rem-if1 c = search needs

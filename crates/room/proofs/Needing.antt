@@ -12,9 +12,9 @@ use Rattle.lists.proofs.Cases.{true-or, same-or, below-or}
 use Rattle.sectors.specs.Sectors.{perSector}
 use Rattle.fat.specs.Lists.{ceil}
 use Rattle.fat.proofs.Listing.{ceil-enough}
-use Rattle.disk.specs.Needed.{resizeMore, writeMore}
+use Rattle.room.specs.Needed.{resizeMore, writeMore}
 use Rattle.disk.proofs.Fitting.{count-grows, count-more, count-none}
 use Rattle.disk.specs.Disk.{needsDifat, afterFat, oneMore, countAfter}
 
 -- a quotient by m or more, m times
 pub quotient-times : (a b m : ℕ) → m ≤ b → a / b * m ≤ a

@@ -2,10 +2,10 @@
 use native.Mathlib.Omega.{arith}
 use native.Mathlib.Nat.{div-mul-le-self}
 use Rattle.fat.proofs.Listing.{ceil-few}
-use Rattle.disk.proofs.Needing.{ceil-left, left-less}
+use Rattle.room.proofs.Needing.{ceil-left, left-less}
 use borrow.Author.Needs.{needs}
-use Rattle.disk.proofs.room.sectors_for.Statement.{statement}
-use Rattle.disk.proofs.room.sectors_for.Tie as tie
+use Rattle.room.proofs.sectors_for.Statement.{statement}
+use Rattle.room.proofs.sectors_for.Tie as tie
 
 div-whole : tie.Need-div-whole
 div-whole c = search needs
