@@ -1,22 +1,24 @@
--- From what the library says of an opening to its agreement with an O record. Assumes nothing.
+-- From what the library says of an opening, and of a chain, to its agreement with a record. Assumes nothing.
 use Prim.Native.Nat.{ℕ, _+_, _-_, _*_, _≤_}
 use mathlib.Core.Path.{_≡_, refl, _∙_, sym, ap}
 use mathlib.Core.Bool.{true}
 use mathlib.Core.List.{List}
 use native.Mathlib.Omega.{arith}
 use borrow.Rule.Slice.PartMut.{putMid}
-use lib.ListN.{length, getD, take, replicate, length-replicate}
+use lib.ListN.{length, take, replicate, length-replicate}
 use Rattle.lists.specs.Lists.{part, sameList, splice}
 use Rattle.lists.proofs.Splice.{sameList-true, length-part, length-splice, putMid-splice}
 use Rattle.header.specs.declared.Validation.{Validation}
 use Rattle.alloc.specs.Opening.{Tables, shortest, openNo}
 use Rattle.alloc.specs.Opened.{tablesLeft}
 use Rattle.cfb.specs.Face.{numberOf, tablesOf, stateOf, Opens}
+use Rattle.cfb.specs.Calls.{chainNo, toldBy, ChainOpens}
 use Rattle.cfb.specs.declared.State.{State}
 use Rattle.cfb.specs.declared.Opened.{Opened}
+use Rattle.cfb.specs.declared.Called.{Called}
 use Rattle.cfb.proofs.Facing.{verdict-number}
-use Rattle.records.specs.Records.{lengthIn, numberIn, modeIn, numbersIn}
-use Rattle.openings.specs.Openings.{placeIn, entriesIn, sectorBytes, imageIn, lentTables, tablesIn, OpenedAs, OpenAgrees}
+use Rattle.records.specs.Records.{lengthIn, modeIn, numbersIn}
+use Rattle.openings.specs.Openings.{placeIn, entriesIn, sectorBytes, imageIn, lentTables, tablesIn, startIn, lentIds, ToldAs, ChainedAs, Says, OpenedAs, ImageAgrees}
 
 -- entries that are copied over a sector of FREE
 pub entries-put : (b : List ℕ) {n : ℕ} {free out : List ℕ} → n ≡ 512 → free ≡ replicate n 255 → out ≡ splice free 0 (part b 520 96) → out ≡ entriesIn b
@@ -50,27 +52,27 @@ tables-same b {marks = marks} f e s d m =
     let k : marks ≡ part b 808 24 = sameList-true _ _ m in
     λ i. record { fat = f i; fats = s i; difats = d i; frees = e i; marks = k i }
 
--- the shortest of the lent tables
-pub lent-shortest : shortest lentTables ≡ 24
-unfolding shortest lentTables
-lent-shortest = refl
+-- a call that told, and left as id list, what the record has
+pub chain-told : (b : List ℕ) {img : List ℕ} {s : State} {t t' : Tables} {start : ℕ} {r : Called} {img' ids' : List ℕ} → start ≡ startIn b → ChainOpens s img t lentIds start r img' t' ids'
+    → ToldAs b (toldBy (r .answer)) ids' → ChainedAs b img s t
+chain-told b {img} {s = s} {t = t} {t' = t'} {r = r} {img' = img'} {ids' = ids'} e says given =
+    let right : ChainOpens s img t lentIds (startIn b) r img' t' ids' = rw (← e) says in
+    let answer = right .answer in
+    let list = right .list in
+    record { no = chainNo s img t (length lentIds) (startIn b); ended = refl; given = rw (← answer, ← list) given }
 
--- an opening that gave the number, the counts and the tables of the record
-pub opened-agrees : (b img : List ℕ) {m : Validation} {r : Opened} {img' : List ℕ} {t' : Tables} {no : ℕ} → m ≡ modeIn b → Opens m img (length img) lentTables r img' t'
-    → numberOf (r .verdict) ≡ no → no ≡ numberIn b → (r .state .free ≡ getD b 6 0) × (r .state .sectors ≡ getD b 7 0) → t' ≡ tablesIn b → OpenedAs b img
-opened-agrees b img {r = r} {img' = img'} {t' = t'} e says n k counts t =
+-- an opening that gave what the record says
+pub opening-said : (b img : List ℕ) {m : Validation} {r : Opened} {img' : List ℕ} {t' : Tables} {no : ℕ} → m ≡ modeIn b → Opens m img (length img) lentTables r img' t'
+    → no ≡ numberOf (r .verdict) → Says b img no (r .state) t' → OpenedAs b img
+opening-said b img {r = r} {img' = img'} {t' = t'} {no = k} e says n given =
     let right : Opens (modeIn b) img (length img) lentTables r img' t' = rw (← e) says in
-    let number : openNo (modeIn b) img (length img) (shortest lentTables) ≡ numberIn b = sym (verdict-number (r .verdict) _ _ _ (right .verdict)) ∙ n ∙ k in
-    let state : r .state ≡ stateOf (numberIn b) (modeIn b) img (length img) = right .state ∙ ap (λ (q : ℕ). stateOf q (modeIn b) img (length img)) number in
-    record {
-      number = ap (openNo (modeIn b) img (length img)) (sym lent-shortest) ∙ number;
-      free = sym (ap (λ (s : State). s .free) state) ∙ counts .0;
-      sectors = sym (ap (λ (s : State). s .sectors) state) ∙ counts .1;
-      tables = sym (right .tables ∙ ap (λ (q : ℕ). tablesLeft q lentTables (tablesOf img (length img))) number) ∙ t;
-    }
+    let ended : k ≡ openNo (modeIn b) img (length img) (shortest lentTables) = n ∙ verdict-number (r .verdict) _ _ _ (right .verdict) in
+    let state : r .state ≡ stateOf k (modeIn b) img (length img) = right .state ∙ ap (λ (q : ℕ). stateOf q (modeIn b) img (length img)) (sym ended) in
+    let tables : t' ≡ tablesLeft k lentTables (tablesOf img (length img)) = right .tables ∙ ap (λ (q : ℕ). tablesLeft q lentTables (tablesOf img (length img))) (sym ended) in
+    record { no = k; ended = ended; given = rw (← state, ← tables) given }
 
 -- the image that was opened is the record's
-pub open-agrees : (b : List ℕ) {n place : ℕ} {made : List ℕ} → n ≡ lengthIn b → n ≤ 24 → place ≡ placeIn b → place ≤ 23 → made ≡ sectorBytes b → OpenedAs b (take (512 * (n + 1)) made)
-    → OpenAgrees b
+pub image-agrees : (b : List ℕ) {n place : ℕ} {made : List ℕ} → n ≡ lengthIn b → n ≤ 24 → place ≡ placeIn b → place ≤ 23 → made ≡ sectorBytes b → OpenedAs b (take (512 * (n + 1)) made)
+    → ImageAgrees b
 unfolding imageIn
-open-agrees b {n = n} {place = place} l few p there e opened = record { few = rw (← l) few; place = omega (arith, p, there); opened = rw (← l, ← e) opened }
+image-agrees b {n = n} {place = place} l few p there e opened = record { few = rw (← l) few; place = omega (arith, p, there); opened = rw (← l, ← e) opened }

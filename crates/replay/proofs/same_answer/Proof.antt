@@ -29,20 +29,11 @@ same-list-requires c κs = search needs
 returns-4 : tie.Need-returns-4
 returns-4 c = λ e. Agrees.lists (c .before .match .keys3) (c .same-list .ensures e)
 
-same-open-requires : tie.Need-same-open-requires
-same-open-requires c κs = search needs
+same-image-requires : tie.Need-same-image-requires
+same-image-requires c κs = search needs
 
 returns-5 : tie.Need-returns-5
-returns-5 c = λ e. Agrees.opens (c .before .match .keys4) (c .same-open .ensures e)
-
-same-chain-requires : tie.Need-same-chain-requires
-same-chain-requires c κs = search needs
-
-returns-6 : tie.Need-returns-6
-returns-6 c = λ e. Agrees.chains (c .before .match .keys5) (c .same-chain .ensures e)
-
-returns-7 : tie.Need-returns-7
-returns-7 c = never
+returns-5 c = λ e. Agrees.images (c .same-image .ensures e)
 
 pub same-answer-spec : {M : Type 1} → statement M
 same-answer-spec =
@@ -56,8 +47,5 @@ same-answer-spec =
     returns-3
     same-list-requires
     returns-4
-    same-open-requires
-    returns-5
-    same-chain-requires
-    returns-6
-    returns-7)
+    same-image-requires
+    returns-5)

@@ -1,19 +1,19 @@
--- `chains::same_chain` meets its contract: the image whose chain is opened is the record's. Assumes nothing.
+-- `same_image` meets its contract: the image that is opened is the record's. Assumes nothing.
 use mathlib.Core.Path.{refl, sym}
 use native.Mathlib.Omega.{arith}
 use lib.Seq.{length-take-le}
 use Rattle.openings.specs.Openings.{placeIn}
 use Rattle.records.proofs.Held.{never}
-use Rattle.replay.proofs.Chained.{chain-agrees}
+use Rattle.openings.proofs.Opened.{image-agrees}
 use borrow.Author.Needs.{needs}
-use Rattle.replay.proofs.chains.same_chain.Statement.{statement}
-use Rattle.replay.proofs.chains.same_chain.Tie as tie
+use Rattle.openings.proofs.same_image.Statement.{statement}
+use Rattle.openings.proofs.same_image.Tie as tie
 
 -- the places of the image and of the number of sectors, which lie far back
-abbrev at-put : tie.After-chained-as → tie.After-put-sectors
+abbrev at-put : tie.After-opened-as → tie.After-put-sectors
 at-put c = c .before .before .before
 
-abbrev at-length : tie.After-chained-as → tie.After-length-in
+abbrev at-length : tie.After-opened-as → tie.After-length-in
 at-length c = at-put c .before .before .before .before .before
 
 length-in-requires : tie.Need-length-in-requires
@@ -47,21 +47,21 @@ mul-end c = search needs
 array-share-prefix-image : tie.Need-array-share-prefix-image
 array-share-prefix-image c = search needs
 
-slice-aggregate-chained-as : tie.Need-slice-aggregate-chained-as
-slice-aggregate-chained-as c = sym (length-take-le _ _ (search needs))
+slice-aggregate-opened-as : tie.Need-slice-aggregate-opened-as
+slice-aggregate-opened-as c = sym (length-take-le _ _ (search needs))
 
-chained-as-requires : tie.Need-chained-as-requires
-chained-as-requires c κs = search needs
+opened-as-requires : tie.Need-opened-as-requires
+opened-as-requires c κs = search needs
 
 returns-3 : tie.Need-returns-3
 unfolding placeIn
 returns-3 c =
     let placed = at-put c .before .before in
     λ e.
-    chain-agrees _ (at-length c .length-in .ensures) (placed .before .before .if1 .left) refl (placed .if2 .left) (at-put c .put-sectors .ensures) (c .chained-as .ensures e)
+    image-agrees _ (at-length c .length-in .ensures) (placed .before .before .if1 .left) refl (placed .if2 .left) (at-put c .put-sectors .ensures) (c .opened-as .ensures e)
 
-pub same-chain-spec : {M : Type 1} → statement M
-same-chain-spec =
+pub same-image-spec : {M : Type 1} → statement M
+same-image-spec =
     tie.close
     (tie.spec
     length-in-requires
@@ -74,6 +74,6 @@ same-chain-spec =
     add-end
     mul-end
     array-share-prefix-image
-    slice-aggregate-chained-as
-    chained-as-requires
+    slice-aggregate-opened-as
+    opened-as-requires
     returns-3)
