@@ -1,24 +1,22 @@
 -- The loop of `read`: where it stands, a turn of it, and what it leaves. Assumes nothing.
-use Prim.Native.Nat.{ℕ, _+_, _-_, _*_, _/_, _%_, _≤_, _<_, min}
+use Prim.Native.Nat.{ℕ, _+_, _-_, _*_, _/_, _%_, _≤_, _<_}
 use mathlib.Core.Path.{_≡_, _∙_, sym, ap}
 use mathlib.Core.List.{List}
 use native.Mathlib.Omega.{arith}
-use native.Mathlib.Nat.{zero-add, mod-lt}
+use native.Mathlib.Nat.{zero-add}
 use borrow.Rule.Slice.PartMut.{putMid}
-use lib.ListN.{length, getD, take, drop, length-take, length-drop}
+use lib.ListN.{length, getD, take, drop}
 use Rattle.lists.specs.Lists.{splice, part}
-use Rattle.lists.proofs.Splice.{length-part, length-splice, splice-nil, splice-next, splice-whole, part-append, putMid-splice}
-use Rattle.sectors.specs.Sectors.{startOf, sectorOf}
-use Rattle.sectors.proofs.Laws.{scaled}
+use Rattle.lists.proofs.Splice.{length-part, length-splice, splice-nil, splice-next, splice-whole, part-append}
+use Rattle.sectors.specs.Sectors.{sectorOf}
 use Rattle.chain.specs.Bytes.{chainBytes, readCount, readBytes, Readable, ReadLeft}
 use Rattle.chain.proofs.Bytes.{length-chain, chain-place, chain-run, count-fits, count-within}
+use Rattle.chain.proofs.Standing.{Stands, stands-byte, lent-run, back-run}
 
 -- a part that is copied over the whole of a list
 pub copied-part : (from out : List ℕ) (x : ℕ) → x + length out ≤ length from → splice out 0 (take (x + length out - x) (drop x from)) ≡ part from x (length out)
-unfolding part
 copied-part from out x h =
-    let k : x + length out - x ≡ length out = omega arith in
-    rw k (splice-whole out (take (length out) (drop x from)) (simp (length-take, length-drop) (omega arith)))
+    ap (splice out 0) (lent-run from x (length out)) ∙ splice-whole out (part from x (length out)) (length-part from x (length out) h)
 
 -- where the loop stands: done of the count bytes are over the buffer's front
 pub record Reading (S : ℕ) (img ids : List ℕ) (offset : ℕ) (before : List ℕ) (count : ℕ) (buf : List ℕ) (done : ℕ) : Type 0 where
@@ -56,28 +54,16 @@ module _ {S : ℕ} {img ids : List ℕ} {offset : ℕ} {before : List ℕ} {coun
 
   -- a turn: the next byte stands in a listed sector, and a run of that sector is put behind what is read
   module _ (more : done < count) where
-    turn-low : offset + done < S * length ids
-    turn-low = omega (arith, reading-within)
+    reading-low : offset + done < S * length ids
+    reading-low = omega (arith, reading-within)
 
-    pub turn-place : (offset + done) / S < length ids
-    turn-place = chain-place S img ids (g .asks .lies) (offset + done) turn-low
+    pub reading-stands : Stands S (length img) ids (offset + done)
+    reading-stands = record { lies = g .asks .lies; place = chain-place S img ids (g .asks .lies) (offset + done) reading-low }
 
-    pub turn-inside : startOf S (getD ids ((offset + done) / S) 0) + S ≤ length img
-    turn-inside = g .asks .lies .inside ((offset + done) / S) turn-place
-
-    pub turn-id : getD ids ((offset + done) / S) 0 < length img
-    turn-id = omega (arith, turn-inside, scaled (getD ids ((offset + done) / S) 0 + 1) S (g .asks .lies .some))
-
-    pub turn-byte : (offset + done) % S < S
-    turn-byte = mod-lt (offset + done) (g .asks .lies .some)
-
-    pub turn-less : (step : ℕ) → step ≡ min (S - (offset + done) % S) (count - done) → count - (done + step) < count - done
-    turn-less step e = omega (arith, turn-byte)
-
-    pub turn-on : (step : ℕ) (run : List ℕ) → step ≤ S - (offset + done) % S → step ≤ count - done
+    pub reading-on : (step : ℕ) (run : List ℕ) → step ≤ S - (offset + done) % S → step ≤ count - done
         → run ≡ part (sectorOf S img (getD ids ((offset + done) / S) 0)) ((offset + done) % S) (length (take (done + step - done) (drop done buf)))
         → Reading S img ids offset before count (putMid done (done + step - done) buf run) (done + step)
-    turn-on step run within left e = record {
+    reading-on step run within left e = record {
       asks = g .asks;
       counted = g .counted;
       most = omega arith;
@@ -90,20 +76,17 @@ module _ {S : ℕ} {img ids : List ℕ} {offset : ℕ} {before : List ℕ} {coun
         sofar : List ℕ
         sofar = part (chainBytes S img ids) offset done
 
-        width : done + step - done ≡ step
-        width = omega arith
-
         lent : length (take (done + step - done) (drop done buf)) ≡ step
-        lent = rw width (simp (length-take, length-drop) (omega (arith, reading-length, reading-fits)))
+        lent = ap length (lent-run buf done step) ∙ length-part buf done step (omega (arith, reading-length, reading-fits))
 
         next-long : length (part (chainBytes S img ids) (offset + done) step) ≡ step
         next-long = length-part (chainBytes S img ids) (offset + done) step (omega (arith, length-chain S img ids (g .asks .lies), reading-within))
 
         ran : run ≡ part (chainBytes S img ids) (offset + done) step
         ran = e ∙ ap (part (sectorOf S img (getD ids ((offset + done) / S) 0)) ((offset + done) % S)) lent
-            ∙ sym (chain-run S img ids (g .asks .lies) (offset + done) step turn-low (omega (arith, turn-byte)))
+            ∙ sym (chain-run S img ids (g .asks .lies) (offset + done) step reading-low (omega (arith, stands-byte reading-stands)))
 
         put : putMid done (done + step - done) buf run ≡ splice buf (0 + length sofar) (part (chainBytes S img ids) (offset + done) step)
-        put = putMid-splice done (done + step - done) buf run (ap length ran ∙ next-long ∙ sym width)
+        put = back-run buf done step run (ap length ran ∙ next-long)
             ∙ ap (splice buf done) ran
             ∙ ap (λ (k : ℕ). splice buf k (part (chainBytes S img ids) (offset + done) step)) (sym (run-long done (g .most)) ∙ sym (zero-add (length sofar)))

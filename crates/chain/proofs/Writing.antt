@@ -1,40 +1,36 @@
 -- The loop of `write`: where it stands, a turn of it, and what it leaves; and a sector that was lent and comes back. Assumes nothing.
-use Prim.Native.Nat.{ℕ, _+_, _-_, _/_, _%_, _≤_, _<_, min}
+use Prim.Native.Nat.{ℕ, _+_, _-_, _/_, _%_, _≤_, _<_}
 use mathlib.Core.Path.{_≡_, _∙_, sym, ap}
 use mathlib.Core.List.{List}
 use native.Mathlib.Omega.{arith}
-use native.Mathlib.Nat.{mod-lt}
 use borrow.Rule.Slice.PartMut.{putMid}
-use lib.ListN.{length, getD, take, drop, length-take, length-drop}
+use lib.ListN.{length, getD, take, drop}
 use lib.Seq.{length-take-le, take-all, take-add}
 use Rattle.lists.specs.Lists.{splice, part}
-use Rattle.lists.proofs.Splice.{length-part, length-splice, splice-whole, splice-part, putMid-splice}
+use Rattle.lists.proofs.Splice.{length-part, length-splice, splice-whole, splice-part}
 use Rattle.sectors.specs.Sectors.{startOf}
-use Rattle.sectors.proofs.Laws.{scaled}
 use Rattle.chain.specs.Stores.{writeBytes, Writable}
 use Rattle.chain.proofs.Bytes.{chain-place}
+use Rattle.chain.proofs.Standing.{Stands, stands-byte, lent-run, back-run}
 use Rattle.chain.proofs.Stored.{write-length, write-none, write-run, write-more}
 
 -- a run copied over the part that is lent for it
 pub copied-run : (sector run out : List ℕ) (x : ℕ) → x + length run ≤ length sector → out ≡ splice (take (x + length run - x) (drop x sector)) 0 run
     → putMid x (x + length run - x) sector out ≡ splice sector x run
 copied-run sector run out x h e =
-    let width : x + length run - x ≡ length run = omega arith in
-    let lent : length run ≡ length (take (x + length run - x) (drop x sector)) = rw width (simp (length-take, length-drop) (omega arith)) in
-    let same : out ≡ run = e ∙ splice-whole (take (x + length run - x) (drop x sector)) run lent in
-    putMid-splice x (x + length run - x) sector out (ap length same ∙ sym width) ∙ ap (splice sector x) same
+    let lent : length (part sector x (length run)) ≡ length run = length-part sector x (length run) h in
+    let same : out ≡ run = e ∙ ap (λ (l : List ℕ). splice l 0 run) (lent-run sector x (length run)) ∙ splice-whole (part sector x (length run)) run (sym lent) in
+    back-run sector x (length run) out (ap length same) ∙ ap (splice sector x) same
 
 -- a sector that was lent and comes back with a run over it
 pub sector-back : (S id x : ℕ) (img run out : List ℕ) → startOf S id + S ≤ length img → x + length run ≤ S
     → out ≡ splice (take (startOf S id + S - startOf S id) (drop (startOf S id) img)) x run
     → putMid (startOf S id) (startOf S id + S - startOf S id) img out ≡ splice img (startOf S id + x) run
-unfolding part
 sector-back S id x img run out h hx e =
-    let width : startOf S id + S - startOf S id ≡ S = omega arith in
     let lent : length (part img (startOf S id) S) ≡ S = length-part img (startOf S id) S h in
-    let same : out ≡ splice (part img (startOf S id) S) x run = e ∙ ap (λ (k : ℕ). splice (take k (drop (startOf S id) img)) x run) width in
+    let same : out ≡ splice (part img (startOf S id) S) x run = e ∙ ap (λ (l : List ℕ). splice l x run) (lent-run img (startOf S id) S) in
     let long : length out ≡ S = ap length same ∙ length-splice (part img (startOf S id) S) x run (rw lent hx) ∙ lent in
-    putMid-splice (startOf S id) (startOf S id + S - startOf S id) img out (long ∙ sym width)
+    back-run img (startOf S id) S out long
     ∙ ap (splice img (startOf S id)) same
     ∙ splice-part img (startOf S id) S x run hx h
 
@@ -70,46 +66,32 @@ module _ {S : ℕ} {before ids : List ℕ} {offset : ℕ} {buf image : List ℕ}
 
   -- a turn: the next byte goes into a listed sector, and a run of buf is put there
   module _ (more : done < length buf) where
-    pub turn-place : (offset + done) / S < length ids
-    turn-place = chain-place S before ids (g .asks .lies) (offset + done) (omega (arith, g .asks .fits))
+    pub writing-stands : Stands S (length image) ids (offset + done)
+    writing-stands =
+        record { lies = rw writing-length (g .asks .lies); place = chain-place S before ids (g .asks .lies) (offset + done) (omega (arith, g .asks .fits)) }
 
-    pub turn-inside : startOf S (getD ids ((offset + done) / S) 0) + S ≤ length image
-    turn-inside = omega (arith, g .asks .lies .inside ((offset + done) / S) turn-place, writing-length)
-
-    pub turn-id : getD ids ((offset + done) / S) 0 < length before
-    turn-id =
-        omega (arith, g .asks .lies .inside ((offset + done) / S) turn-place, scaled (getD ids ((offset + done) / S) 0 + 1) S (g .asks .lies .some))
-
-    pub turn-byte : (offset + done) % S < S
-    turn-byte = mod-lt (offset + done) (g .asks .lies .some)
-
-    pub turn-less : (step : ℕ) → step ≡ min (S - (offset + done) % S) (length buf - done) → length buf - (done + step) < length buf - done
-    turn-less step e = omega (arith, turn-byte)
-
-    pub turn-on : (step : ℕ) (after : List ℕ) → step ≤ S - (offset + done) % S → step ≤ length buf - done
+    pub writing-on : (step : ℕ) (after : List ℕ) → step ≤ S - (offset + done) % S → step ≤ length buf - done
         → after ≡ splice image (startOf S (getD ids ((offset + done) / S) 0) + (offset + done) % S) (take (done + step - done) (drop done buf))
         → Writing S before ids offset buf after (done + step)
-    turn-on step after within left e = record {
+    unfolding part
+    writing-on step after within left e = record {
       asks = g .asks;
       most = omega arith;
       holds =
           e
-          ∙ ap (λ (k : ℕ). splice image (startOf S (getD ids ((offset + done) / S) 0) + (offset + done) % S) (take k (drop done buf))) width
-          ∙ write-run S image ids (offset + done) next (rw writing-length next-asks) turn-place (omega (arith, next-long, turn-byte))
+          ∙ ap (splice image (startOf S (getD ids ((offset + done) / S) 0) + (offset + done) % S)) (lent-run buf done step)
+          ∙ write-run S image ids (offset + done) next (rw writing-length next-asks) (writing-stands .place) (omega (arith, next-long, stands-byte writing-stands))
           ∙ ap (λ (u : List ℕ). writeBytes S u ids (offset + done) next) (g .holds)
           ∙ ap (λ (k : ℕ). writeBytes S (writeBytes S before ids offset (take done buf)) ids (offset + k) next) (sym done-long)
           ∙ write-more S before ids offset (take done buf) next (writable-less (g .asks) (length (take done buf) + length next) (omega (arith, done-long, next-long)))
           ∙ ap (writeBytes S before ids offset) (sym (take-add done step buf));
     }
       where
-        width : done + step - done ≡ step
-        width = omega arith
-
         next : List ℕ
-        next = take step (drop done buf)
+        next = part buf done step
 
         next-long : length next ≡ step
-        next-long = simp (length-take, length-drop) (omega arith)
+        next-long = length-part buf done step (omega arith)
 
         next-asks : Writable S (length before) ids (offset + done) (length next)
         next-asks = record { lies = g .asks .lies; apart = g .asks .apart; fits = omega (arith, g .asks .fits, next-long) }

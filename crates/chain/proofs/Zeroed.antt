@@ -2,7 +2,7 @@
 use Prim.Native.Nat.{ℕ, suc, _+_, _-_, _*_, _/_, _%_, _≤_, _<_}
 use mathlib.Core.Path.{_≡_, _∙_, sym, ap}
 use mathlib.Core.List.{List}
-use mathlib.Core.Logic.{_⊎_, ⊎-elim, _≢_}
+use mathlib.Core.Logic.{⊎-elim, _≢_}
 use native.Mathlib.Omega.{arith}
 use native.Mathlib.Nat.{mul-suc, mul-le-mul-left, div-add-mod, mod-lt}
 use borrow.Author.Tests.{eq-eqb, ne-eqb}
@@ -10,12 +10,12 @@ use borrow.Rule.Slice.PartMut.{putMid}
 use lib.ListN.{length, getD, take, drop, replicate, length-take, length-drop, length-replicate}
 use Rattle.lists.specs.Lists.{splice}
 use Rattle.lists.proofs.Cases.{below-or, same-or}
-use Rattle.lists.proofs.Splice.{putMid-splice}
+use Rattle.lists.proofs.Splice.{length-part, putMid-splice}
 use Rattle.sectors.specs.Sectors.{startOf, sectorOf}
-use Rattle.sectors.proofs.Laws.{scaled}
 use Rattle.chain.specs.Bytes.{chainBytes}
 use Rattle.chain.specs.Stores.{writeBytes, tailOf, zeroTail, Writable, Outside}
 use Rattle.chain.proofs.Stored.{write-length, write-chain, write-apart, write-sector, write-none, write-run}
+use Rattle.chain.proofs.Standing.{Stands, stands-byte, lent-run}
 use Rattle.chain.proofs.Writing.{sector-back}
 
 -- zeros over the part that is lent for them
@@ -32,7 +32,8 @@ pub zeros-back : (S id x : ℕ) (img out : List ℕ) → startOf S id + S ≤ le
     (replicate (length (take (startOf S id + S - startOf S id) (drop (startOf S id) img)) - x) 0)
     → putMid (startOf S id) (startOf S id + S - startOf S id) img out ≡ splice img (startOf S id + x) (replicate (S - x) 0)
 zeros-back S id x img out h hx e =
-    let lent : length (take (startOf S id + S - startOf S id) (drop (startOf S id) img)) ≡ S = simp (length-take, length-drop) (omega arith) in
+    let lent : length (take (startOf S id + S - startOf S id) (drop (startOf S id) img)) ≡ S =
+    ap length (lent-run img (startOf S id) S) ∙ length-part img (startOf S id) S h in
     sector-back S id x img (replicate (S - x) 0) out h (rw (length-replicate {A = ℕ} (S - x) 0) (omega arith))
     (e ∙ ap (λ (k : ℕ). splice (take (startOf S id + S - startOf S id) (drop (startOf S id) img)) x (replicate (k - x) 0)) lent)
 
@@ -70,16 +71,9 @@ writable-tail S len ids o w = record {
   fits = rw (length-replicate {A = ℕ} (tailOf S o) 0) (tail-fits S o (length ids) (w .lies .some) (omega (arith, w .fits)));
 }
 
--- an offset within a sector: that sector is listed, and lies in the image
-module _ {S len : ℕ} {ids : List ℕ} {o : ℕ} (w : Writable S len ids o 0) (d : o % S ≢ 0) where
-  pub zero-place : o / S < length ids
-  zero-place = tail-place S o (length ids) d (omega (arith, w .fits))
-
-  pub zero-inside : startOf S (getD ids (o / S) 0) + S ≤ len
-  zero-inside = w .lies .inside (o / S) zero-place
-
-  pub zero-id : getD ids (o / S) 0 < len
-  zero-id = omega (arith, zero-inside, scaled (getD ids (o / S) 0 + 1) S (w .lies .some))
+-- an offset within a sector stands in one of the chain
+pub zero-stands : {S len : ℕ} {ids : List ℕ} {o : ℕ} → Writable S len ids o 0 → o % S ≢ 0 → Stands S len ids o
+zero-stands {S} {len} {ids} {o} w d = record { lies = w .lies; place = tail-place S o (length ids) d (omega (arith, w .fits)) }
 
 -- the zeros: the image's length, the chain's bytes, and what they leave alone
 module _ (S : ℕ) (img ids : List ℕ) (o : ℕ) (w : Writable S (length img) ids o 0) where
@@ -111,5 +105,5 @@ module _ (S : ℕ) (img ids : List ℕ) (o : ℕ) (w : Writable S (length img) i
       e
       ∙ ap (λ (k : ℕ). splice img (startOf S (getD ids (o / S) 0) + o % S) (replicate k 0)) (sym (tail-some S o d))
       ∙ write-run S img ids o (replicate (tailOf S o) 0) (writable-tail S (length img) ids o w)
-      (zero-place w d)
-      (rw (length-replicate {A = ℕ} (tailOf S o) 0) (omega (arith, tail-some S o d, mod-lt o (w .lies .some))))
+      (zero-stands w d .place)
+      (rw (length-replicate {A = ℕ} (tailOf S o) 0) (omega (arith, tail-some S o d, stands-byte (zero-stands w d))))

@@ -9,9 +9,9 @@ use lib.Seq.{getD-set-same, getD-set-other}
 use Rattle.lists.proofs.Cases.{same-or}
 use Rattle.consts.specs.Consts.{freeSector}
 use Rattle.disk.specs.Disk.{setFat}
-use Rattle.hand.specs.Hand.{Hand, Chain, point, Points, freeSectorOf, freeRun}
+use Rattle.hand.specs.Hand.{Hand, Chain, point, freeSectorOf, freeRun}
 use Rattle.hand.specs.Fits.{FitsHand, FitsFrees, FitsChain}
-use Rattle.hand.proofs.Pointing.{handOf, HandLong, long-none, long-then, points-hand, point-fits, point-long}
+use Rattle.hand.proofs.Pointing.{handOf, HandLong, long-none, long-then, point-fits, point-long}
 
 -- freeing leaves what the code asks for
 pub free-fits : (S R : ℕ) (h : Hand) (i : ℕ) → FitsHand S R h → i < h .disk .sectors → h .free < h .disk .sectors → FitsHand S R (freeSectorOf S h i)
@@ -108,13 +108,11 @@ chain-freed S R i m c f b =
       few = rw (free-run-sectors, free-run-count) (omega (arith, b, f .few));
     }
 
--- the parts that freeing one touches
-freed-hand : (S n : ℕ) (image fat fats difats frees marks : List ℕ) (free i : ℕ) (image' fat' marks' : List ℕ) → Points S n image fat fats marks i freeSector image' fat' marks'
-    → handOf n image' fat' fats difats (set frees free i) (suc free) marks' ≡ freeSectorOf S (handOf n image fat fats difats frees free marks) i
+-- a sector whose entry was made FREE, and which joined the free list
+freed-of : (S : ℕ) (h pointed : Hand) (i : ℕ) → pointed ≡ point S h i freeSector
+    → record { disk = pointed .disk; frees = set (h .frees) (h .free) i; free = suc (h .free); marks = pointed .marks } ≡ freeSectorOf S h i
 unfolding freeSectorOf
-freed-hand S n image fat fats difats frees marks free i image' fat' marks' p =
-    ap (λ (g : Hand). record { disk = g .disk; frees = set frees free i; free = suc free; marks = g .marks })
-    (points-hand S n image fat fats difats frees marks free i freeSector image' fat' marks' p)
+freed-of S h pointed i e = ap (λ (g : Hand). record { disk = g .disk; frees = set (h .frees) (h .free) i; free = suc (h .free); marks = g .marks }) e
 
 -- the invariant of the loop that frees: what is left from here is the whole
 pub record Freeing (S R n free : ℕ) (image₀ fat₀ fats frees₀ marks₀ ids : List ℕ) (from count : ℕ) (image fat frees marks : List ℕ) (j : ℕ) : Type 0 where
@@ -159,7 +157,9 @@ module _ {S R n free : ℕ} {image₀ fat₀ fats frees₀ marks₀ ids : List �
   pub freeing-place : j < count → free + j < length frees
   freeing-place h = omega (arith, h, g .fits .room, g .fits .fits .disk .inside, g .fits .fits .frees-long)
 
-  pub freeing-on : j < count → (image' fat' marks' : List ℕ) → Points S n image fat fats marks (getD ids (from + j) 0) freeSector image' fat' marks'
+  pub freeing-on : j < count → (image' fat' marks' : List ℕ)
+      → ((difats frees : List ℕ) (free : ℕ)
+      → handOf n image' fat' fats difats frees free marks' ≡ point S (handOf n image fat fats difats frees free marks) (getD ids (from + j) 0) freeSector)
       → length image' ≡ length image → length fat' ≡ length fat → length marks' ≡ length marks
       → Freeing S R n free image₀ fat₀ fats frees₀ marks₀ ids from count image' fat' (set frees (free + j) (getD ids (from + j) 0)) marks' (j + 1)
   freeing-on h image' fat' marks' p li lf lm =
@@ -169,7 +169,7 @@ module _ {S R n free : ℕ} {image₀ fat₀ fats frees₀ marks₀ ids : List �
       let one : (difats : List ℕ)
       → handOf n image' fat' fats difats (set frees (free + j) (getD ids (from + j) 0)) (suc (free + j)) marks'
       ≡ freeSectorOf S (handOf n image fat fats difats frees (free + j) marks) (getD ids (from + j) 0)
-      = λ difats. freed-hand S n image fat fats difats frees marks (free + j) (getD ids (from + j) 0) image' fat' marks' p in
+      = λ difats. freed-of S (handOf n image fat fats difats frees (free + j) marks) (handOf n image' fat' fats difats frees (free + j) marks') (getD ids (from + j) 0) (p difats frees (free + j)) in
       record {
         spare = g .spare;
         fits = rw (a, b, one (g .spare)) (frees-more S R (from + j) (count - (j + 1)) ids (handOf n image fat fats (g .spare) frees (free + j) marks) (rw m at (g .fits)));

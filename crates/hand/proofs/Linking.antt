@@ -12,9 +12,9 @@ use Rattle.sectors.specs.Sectors.{startOf, perSector}
 use Rattle.fat.specs.Lists.{most}
 use Rattle.disk.specs.Disk.{oneMore, countAfter}
 use Rattle.disk.proofs.Fitting.{one-more-grows, count-none, count-more, count-grows}
-use Rattle.hand.specs.Hand.{Hand, Chain, Points, point, takenId, takeSector, linked, extendOne}
+use Rattle.hand.specs.Hand.{Hand, Chain, point, takenId, takeSector, linked, extendOne}
 use Rattle.hand.specs.Fits.{FitsHand, FitsStock, FitsLast, FitsMore}
-use Rattle.hand.proofs.Pointing.{handOf, HandLong, long-none, long-then, points-hand, point-fits, point-inside, point-long, point-counts}
+use Rattle.hand.proofs.Pointing.{handOf, HandLong, long-none, long-then, point-fits, point-inside, point-long, point-counts}
 use Rattle.hand.proofs.Taking.{stock-of, take-sectors-new, take-sectors-same, take-sectors-grow, take-free, taken-below, take-fits, take-long}
 
 -- a chain of none, and one with a last sector
@@ -26,13 +26,14 @@ pub linked-last : (S : ℕ) (h : Hand) (ids : List ℕ) (count id : ℕ) → cou
 unfolding linked
 linked-last S h ids count id e = rw (ne-eqb count 0 e)
 
--- the same of the parts that linking touches
-pub linked-points : (S n : ℕ) (image fat fats marks ids : List ℕ) (count id : ℕ) (image' fat' marks' : List ℕ) → count ≢ 0
-    → Points S n image fat fats marks (getD ids (count - 1) 0) id image' fat' marks' → (difats frees : List ℕ) (free : ℕ)
+-- the same, whatever else is in hand
+pub linked-of : (S n : ℕ) (image fat fats marks ids : List ℕ) (count id : ℕ) (image' fat' marks' : List ℕ) → count ≢ 0
+    → ((difats frees : List ℕ) (free : ℕ)
+    → handOf n image' fat' fats difats frees free marks' ≡ point S (handOf n image fat fats difats frees free marks) (getD ids (count - 1) 0) id)
+    → (difats frees : List ℕ) (free : ℕ)
     → handOf n image' fat' fats difats frees free marks' ≡ linked S (handOf n image fat fats difats frees free marks) ids count id
-linked-points S n image fat fats marks ids count id image' fat' marks' e p difats frees free =
-    points-hand S n image fat fats difats frees marks free (getD ids (count - 1) 0) id image' fat' marks' p
-    ∙ sym (linked-last S (handOf n image fat fats difats frees free marks) ids count id e)
+linked-of S n image fat fats marks ids count id image' fat' marks' e p difats frees free =
+    p difats frees free ∙ sym (linked-last S (handOf n image fat fats difats frees free marks) ids count id e)
 
 -- the last sector of a chain in hand can be made to point elsewhere
 pub last-fits : (S R : ℕ) (h : Hand) (ids : List ℕ) (count : ℕ) → FitsHand S R h → count ≤ length ids → (0 < count → getD ids (count - 1) 0 < h .disk .sectors)

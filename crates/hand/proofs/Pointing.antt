@@ -1,6 +1,6 @@
 -- The laws of marks, and of an entry made to point at a sector. Assumes nothing.
 use Prim.Native.Nat.{ℕ, _+_, _*_, _/_, _≤_, _<_}
-use mathlib.Core.Path.{_≡_, refl, _∙_, ap}
+use mathlib.Core.Path.{_≡_, refl, _∙_}
 use mathlib.Core.Bool.{Bool, true, false}
 use mathlib.Core.List.{List}
 use native.Mathlib.Omega.{arith}
@@ -15,7 +15,7 @@ use Rattle.disk.specs.Disk.{Disk, setFat, entryPlace}
 use Rattle.disk.specs.Fits.{FitsWhole}
 use Rattle.disk.proofs.Fitting.{set-fits, set-long, entry-sector, fats-inside}
 use Rattle.disk.proofs.Keeping.{SameLong}
-use Rattle.hand.specs.Hand.{Hand, marked, point, Points}
+use Rattle.hand.specs.Hand.{Hand, marked, point}
 use Rattle.hand.specs.Fits.{FitsHand}
 
 -- a mark that is set, and one that is no sector's
@@ -35,23 +35,18 @@ length-marked n marks t v = at (ltb t n)
     at true = length-set marks t v
     at false = refl
 
--- the parts that pointing touches, one after the other
-pub points-of : (S n : ℕ) (image fat fats marks : List ℕ) (i v : ℕ) (image' fat' lost marks' : List ℕ) → lost ≡ marked n marks (getD fat i 0) 0
-    → marks' ≡ marked n lost v 1 → image' ≡ splice image (entryPlace S fats i) (digits 4 v) → fat' ≡ set fat i v
-    → Points S n image fat fats marks i v image' fat' marks'
-points-of S n image fat fats marks i v image' fat' lost marks' l m s e =
-    record { stored = s; entry = e; moved = m ∙ ap (λ (x : List ℕ). marked n x v 1) l }
-
 -- what is in hand, by its parts
 abbrev pub handOf : ℕ → List ℕ → List ℕ → List ℕ → List ℕ → List ℕ → ℕ → List ℕ → Hand
 handOf n image fat fats difats frees free marks =
     record { disk = record { image = image; fat = fat; fats = fats; difats = difats; sectors = n }; frees = frees; free = free; marks = marks }
 
--- what is in hand, after the parts were touched
-pub points-hand : (S n : ℕ) (image fat fats difats frees marks : List ℕ) (free i v : ℕ) (image' fat' marks' : List ℕ) → Points S n image fat fats marks i v image' fat' marks'
+-- an entry made to point elsewhere: the old mark is lost, the new one comes, and the entry is set, whatever else is in hand
+pub pointed-of : (S n : ℕ) (image fat fats marks : List ℕ) (i v : ℕ) (image' fat' lost marks' : List ℕ) → lost ≡ marked n marks (getD fat i 0) 0
+    → marks' ≡ marked n lost v 1 → (image' ≡ splice image (entryPlace S fats i) (digits 4 v)) × (fat' ≡ set fat i v)
+    → (difats frees : List ℕ) (free : ℕ)
     → handOf n image' fat' fats difats frees free marks' ≡ point S (handOf n image fat fats difats frees free marks) i v
 unfolding point setFat
-points-hand S n image fat fats difats frees marks free i v image' fat' marks' p = rw (p .stored, p .entry, p .moved)
+pointed-of S n image fat fats marks i v image' fat' lost marks' l m s difats frees free = rw (m, l, s .0, s .1)
 
 -- an entry of a sector in hand can be set
 pub entry-in-hand : (S R : ℕ) (d : Disk) (i : ℕ) → FitsWhole S R d → i < d .sectors

@@ -1,13 +1,11 @@
 -- What is in hand of an open image, and the moves on it (document 01, "Calls on a chain"), over the sector's length S. Assumes nothing.
 use Prim.Native.Nat.{ℕ, zero, suc, _-_}
-use mathlib.Core.Path.{_≡_}
 use mathlib.Core.List.{List}
 use lib.Dec.{eqb, ltb}
 use lib.ListN.{getD, set}
-use Rattle.lists.specs.Lists.{choose, splice}
-use Rattle.words.specs.Words.{digits}
+use Rattle.lists.specs.Lists.{choose}
 use Rattle.consts.specs.Consts.{freeSector}
-use Rattle.disk.specs.Disk.{Disk, entryPlace, setFat, ready, newSector, reused}
+use Rattle.disk.specs.Disk.{Disk, setFat, ready, newSector, reused}
 
 -- the disk, the lent free list over its whole length and how many sectors it lists, and the lent marks
 pub record Hand : Type 0 where
@@ -30,12 +28,6 @@ point S h i v =
       free = h .free;
       marks = marked (h .disk .sectors) (marked (h .disk .sectors) (h .marks) (getD (h .disk .fat) i 0) 0) v 1;
     }
-
--- the same of the parts that it touches
-pub record Points (S n : ℕ) (image fat fats marks : List ℕ) (i v : ℕ) (image' fat' marks' : List ℕ) : Type 0 where
-  pub stored : image' ≡ splice image (entryPlace S fats i) (digits 4 v)
-  pub entry : fat' ≡ set fat i v
-  pub moved : marks' ≡ marked n (marked n marks (getD fat i 0) 0) v 1
 
 -- document 01: sectors are taken from the end of the free list; when it is empty, id n
 unfoldable pub takenId : ℕ → Hand → ℕ

@@ -11,7 +11,7 @@ ghost use Rattle.sectors.specs.Sectors.{startOf, perSector};
 ghost use Rattle.fat.specs.Lists.{roomOf};
 ghost use Rattle.disk.specs.Disk.{reused};
 ghost use Rattle.hand.specs.Fits.{FitsStock, FitsFrees, FitsLast};
-ghost use Rattle.hand.specs.Hand.{marked, Points, takenId, takeSector, freeRun, linked};
+ghost use Rattle.hand.specs.Hand.{marked, point as pointed, takenId, takeSector, freeRun, linked};
 
 // Sets the mark of sector t, where t is one of n.
 fn set_mark(n: usize, marks: &mut [u8], t: u32, v: u8)
@@ -38,7 +38,7 @@ pub fn point(
     requires { ⌜ (s ≡ 4 * perSector s) × (1 ≤ perSector s) × (n ≤ length (now marks)) ⌝ }
     requires { ⌜ (i < length (now fat)) × (i / perSector s < length (now fats)) ⌝ }
     requires { ⌜ startOf s (getD (now fats) (i / perSector s) 0) + s ≤ length (now image) ⌝ }
-    ensures { λ _. ⌜ Points s n (now (image .entry)) (now (fat .entry)) (now (fats .entry)) (now (marks .entry)) i v (now (image .exit)) (now (fat .exit)) (now (marks .exit)) ⌝ }
+    ensures { λ _. ⌜ ((difats frees : List ℕ) (free : ℕ) → record { disk = record { image = now (image .exit); fat = now (fat .exit); fats = now (fats .exit); difats = difats; sectors = n }; frees = frees; free = free; marks = now (marks .exit) } ≡ pointed s (record { disk = record { image = now (image .entry); fat = now (fat .entry); fats = now (fats .entry); difats = difats; sectors = n }; frees = frees; free = free; marks = now (marks .entry) }) i v) ⌝ }
 {
     set_mark(n, marks, fat[i], 0);
     set_mark(n, marks, v, 1);

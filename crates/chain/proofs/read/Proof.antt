@@ -4,7 +4,8 @@ use native.Mathlib.Omega.{arith}
 use borrow.Author.Needs.{needs}
 use lib.ListN.{length-take}
 use Rattle.chain.specs.Bytes.{readCount}
-use Rattle.chain.proofs.Reading.{Reading, reading-begun, reading-fits, reading-within, reading-length, reading-over, turn-place, turn-inside, turn-id, turn-byte, turn-less, turn-on}
+use Rattle.chain.proofs.Reading.{Reading, reading-begun, reading-fits, reading-within, reading-length, reading-over, reading-stands, reading-on}
+use Rattle.chain.proofs.Standing.{stands-id, stands-byte, run-inside, run-less}
 use Rattle.chain.proofs.read.Statement.{statement}
 use Rattle.chain.proofs.read.Tie as tie
 
@@ -38,7 +39,7 @@ rem-x : tie.Need-rem-x Inv-loop μ-loop
 rem-x c = omega (arith, c .before .loop .inv .asks .lies .some)
 
 sub-lesser-2 : tie.Need-sub-lesser-2 Inv-loop μ-loop
-sub-lesser-2 c = omega (arith, turn-byte (c .before .loop .inv) (c .loop-test .taken))
+sub-lesser-2 c = omega (arith, stands-byte (reading-stands (c .before .loop .inv) (c .loop-test .taken)))
 
 sub-lesser-3 : tie.Need-sub-lesser-3 Inv-loop μ-loop
 sub-lesser-3 c = omega arith
@@ -53,13 +54,13 @@ div-id : tie.Need-div-id Inv-loop μ-loop
 div-id c = omega (arith, c .before .before .loop .inv .asks .lies .some)
 
 mul-id : tie.Need-mul-id Inv-loop μ-loop
-mul-id c = omega (arith, turn-place (c .before .before .loop .inv) (c .before .loop-test .taken))
+mul-id c = omega (arith, reading-stands (c .before .before .loop .inv) (c .before .loop-test .taken) .place)
 
 shared-slice-read-id : tie.Need-shared-slice-read-id Inv-loop μ-loop
-shared-slice-read-id c = turn-place (c .before .before .before .loop .inv) (c .before .before .loop-test .taken)
+shared-slice-read-id c = reading-stands (c .before .before .before .loop .inv) (c .before .before .loop-test .taken) .place
 
 cast-id : tie.Need-cast-id Inv-loop μ-loop
-cast-id c = omega (arith, turn-id (c .before .before .before .loop .inv) (c .before .before .loop-test .taken))
+cast-id c = omega (arith, stands-id (reading-stands (c .before .before .before .loop .inv) (c .before .before .loop-test .taken)))
 
 sub-read-at : tie.Need-sub-read-at Inv-loop μ-loop
 sub-read-at c = omega arith
@@ -72,17 +73,16 @@ part-read-at-end c = let g = c .before .before .before .loop .inv in
     omega (arith, reading-length g, reading-fits g, c .before .lesser2 .ensures .1)
 
 read-at-requires : tie.Need-read-at-requires Inv-loop μ-loop
-read-at-requires c κs = let g = turn c .before .before .loop .inv in
-    let t = turn c .before .loop-test .taken in
-    (turn-inside g t, (g .asks .lies .some, simp length-take (omega (arith, turn-byte g t, turn c .lesser2 .ensures .0))))
+read-at-requires c κs = let p = turn c in
+    run-inside (reading-stands (p .before .before .loop .inv) (p .before .loop-test .taken)) _ (simp length-take (omega (arith, p .lesser2 .ensures .0)))
 
 loop-less : tie.Need-loop-less Inv-loop μ-loop
 loop-less c = let p = turn (c .before .before .before) in
-    turn-less (p .before .before .loop .inv) (p .before .loop-test .taken) (p .lesser2 .result) (p .lesser2 .ensures .2)
+    run-less (reading-stands (p .before .before .loop .inv) (p .before .loop-test .taken)) _ _ (p .lesser2 .result) (p .before .loop-test .taken) (p .lesser2 .ensures .2)
 
 loop-again : tie.Need-loop-again Inv-loop μ-loop
 loop-again c = let p = turn (c .before .before .before) in
-    turn-on (p .before .before .loop .inv) (p .before .loop-test .taken) (p .lesser2 .result) _ (p .lesser2 .ensures .0) (p .lesser2 .ensures .1) (c .before .before .read-at .ensures)
+    reading-on (p .before .before .loop .inv) (p .before .loop-test .taken) (p .lesser2 .result) _ (p .lesser2 .ensures .0) (p .lesser2 .ensures .1) (c .before .before .read-at .ensures)
 
 same-length : tie.Need-same-length Inv-loop μ-loop
 same-length c = reading-length (c .before .loop .inv)

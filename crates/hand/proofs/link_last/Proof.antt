@@ -1,7 +1,7 @@
 -- A chain of none leaves everything; else the entry of its last sector is made to point at the new one.
 use mathlib.Core.Path.{sym}
 use native.Mathlib.Omega.{arith}
-use Rattle.hand.proofs.Linking.{linked-none, linked-points, last-inside}
+use Rattle.hand.proofs.Linking.{linked-none, linked-of, last-inside}
 use borrow.Author.Needs.{needs}
 use Rattle.hand.proofs.link_last.Statement.{statement}
 use Rattle.hand.proofs.link_last.Tie as tie
@@ -41,7 +41,7 @@ same-length-3 : tie.Need-same-length-3
 same-length-3 c = search needs
 
 returns-2 : tie.Need-returns-2
-returns-2 c = let p = c .before .before .before .before .before .before in linked-points _ _ _ _ _ _ _ _ _ _ _ _ (some (p .before) .if1 .left) (p .point .ensures)
+returns-2 c = let p = c .before .before .before .before .before .before in linked-of _ _ _ _ _ _ _ _ _ _ _ _ (some (p .before) .if1 .left) (p .point .ensures)
 
 pub link-last-spec : {M : Type 1} → statement M
 link-last-spec =

@@ -1,5 +1,5 @@
 -- The old mark goes, the new one comes, and the entry is set.
-use Rattle.hand.proofs.Pointing.{points-of}
+use Rattle.hand.proofs.Pointing.{pointed-of}
 use borrow.Author.Needs.{needs}
 use Rattle.hand.proofs.point.Statement.{statement}
 use Rattle.hand.proofs.point.Tie as tie
@@ -41,7 +41,7 @@ same-length-3 c = search needs
 returns : tie.Need-returns
 returns c = let s = stored c in
     let m = marked s in
-    points-of _ _ _ _ _ _ _ _ _ _ _ _ (lost m .set-mark .ensures) (m .set-mark2 .ensures) (s .set-fat .ensures .0) (s .set-fat .ensures .1)
+    pointed-of _ _ _ _ _ _ _ _ _ _ _ _ (lost m .set-mark .ensures) (m .set-mark2 .ensures) (s .set-fat .ensures)
 
 pub point-spec : {M : Type 1} → statement M
 point-spec =

@@ -5,6 +5,7 @@ use mathlib.Core.Bool.{true}
 use borrow.Author.Tests.{not-true, not-false}
 use Rattle.lists.specs.Rows.{refusal}
 use Rattle.alloc.specs.Opening.{Tables, firstRows, shortest}
+use Rattle.alloc.proofs.First.{early-len, early-sectors, early-own}
 use Rattle.agree.specs.Agree.{sameHeader}
 use Rattle.agree.proofs.Agreeing.{agree-early, agree-header, agree-count, agree-free, agree-told, agree-lent}
 use borrow.Author.Needs.{needs}
@@ -44,17 +45,17 @@ same-header-requires c κs = search needs
 returns-2 : tie.Need-returns-2
 returns-2 c =
     let e = c .before .before .before in
-    agree-header _ _ _ _ _ _ (tables (entry (e .before))) _ (e .before .judge-early .ensures .header (e .if1 .left)) (sym (c .before .same-header .ensures) ∙ not-true _ (c .if2 .taken))
+    agree-header _ _ _ _ _ _ (tables (entry (e .before))) _ (early-own (e .before .judge-early .ensures) (e .if1 .left)) (sym (c .before .same-header .ensures) ∙ not-true _ (c .if2 .taken))
 
 returns-3 : tie.Need-returns-3
 returns-3 c =
     let e = c .before .before .before .before in
-    agree-count _ _ _ _ _ _ (tables (entry (e .before))) _ (e .before .judge-early .ensures .sectors (e .if1 .left)) (c .if3 .taken)
+    agree-count _ _ _ _ _ _ (tables (entry (e .before))) _ (early-sectors (e .before .judge-early .ensures) (e .if1 .left)) (c .if3 .taken)
 
 returns-4 : tie.Need-returns-4
 returns-4 c =
     let e = c .before .before .before .before .before in
-    agree-free _ _ _ _ _ _ (tables (entry (e .before))) _ (e .before .judge-early .ensures .sectors (e .if1 .left)) (c .if4 .taken)
+    agree-free _ _ _ _ _ _ (tables (entry (e .before))) _ (early-sectors (e .before .judge-early .ensures) (e .if1 .left)) (c .if4 .taken)
 
 is-strict-requires : tie.Need-is-strict-requires
 is-strict-requires c κs = search needs
@@ -65,7 +66,7 @@ same-whole-requires c κs =
     let own = k .before .before in
     let e = own .before .before .before in
     let says = e .before .judge-early .ensures in
-    agree-lent _ _ _ (entry (e .before) .args .sectors) _ _ (tables (entry (e .before))) (passed e) _ _ _ _ (says .len (e .if1 .left)) (says .sectors (e .if1 .left)) (says .header (e .if1 .left)) (own-header own) (k .if4 .left) (entry (e .before) .pre)
+    agree-lent _ _ _ (entry (e .before) .args .sectors) _ _ (tables (entry (e .before))) (passed e) _ _ _ _ (early-len says (e .if1 .left)) (early-sectors says (e .if1 .left)) (early-own says (e .if1 .left)) (own-header own) (k .if4 .left) (entry (e .before) .pre)
 
 same-length : tie.Need-same-length
 same-length c = search needs
@@ -78,7 +79,7 @@ returns-5 c =
     let own = d .before in
     let e = own .before .before .before in
     let says = e .before .judge-early .ensures in
-    agree-told _ _ _ _ _ _ (tables (entry (e .before))) (passed e) _ _ _ _ _ (k .is-strict .ensures) (says .len (e .if1 .left)) (says .sectors (e .if1 .left)) (says .header (e .if1 .left)) (own-header own) (d .if3 .left) (w .same-whole .ensures)
+    agree-told _ _ _ _ _ _ (tables (entry (e .before))) (passed e) _ _ _ _ _ (k .is-strict .ensures) (early-len says (e .if1 .left)) (early-sectors says (e .if1 .left)) (early-own says (e .if1 .left)) (own-header own) (d .if3 .left) (w .same-whole .ensures)
 
 pub agrees-spec : {M : Type 1} → statement M
 agrees-spec =

@@ -4,6 +4,7 @@ use mathlib.Core.Path.{_≡_, sym, _∙_, ap}
 use mathlib.Core.List.{List}
 use Rattle.lists.specs.Rows.{refusal}
 use Rattle.alloc.specs.Opening.{Tables, firstRows, shortest}
+use Rattle.alloc.proofs.First.{early-len, early-sectors, early-own}
 use Rattle.alloc.proofs.Opens.{opens-early, opens-lent, opens-refused, opens, loaded-own, lent-own, found-own}
 use borrow.Author.Needs.{needs}
 use Rattle.alloc.proofs.open.open_tables.Statement.{statement}
@@ -71,7 +72,7 @@ load-all-requires : tie.Need-load-all-requires
 load-all-requires c κs =
     let e = early c .judge-early .ensures in
     let z = passed c .if1 .left in
-    lent-own _ _ _ _ _ _ _ _ _ _ (e .len z) (e .sectors z) (opens-lent _ _ _ (tables (early c)) (zero c))
+    lent-own _ _ _ _ _ _ _ _ _ _ (early-len e z) (early-sectors e z) (opens-lent _ _ _ (tables (early c)) (zero c))
 
 nothing-requires-2 : tie.Need-nothing-requires-2
 nothing-requires-2 c κs = search needs
@@ -98,7 +99,7 @@ returns-2 c =
     let e = early a .judge-early .ensures in
     let z = passed a .if1 .left in
     opens-refused _ _ _ (tables (early a)) (zero a) _ _ _ _ _ _
-    (loaded-own _ _ _ _ _ _ _ _ _ _ _ _ _ _ _ _ _ _ _ _ (a .before .before .before .before .before .is-strict .ensures) (e .len z) (e .header z) (e .sectors z) (l .load-all .ensures)) _ (c .nothing2 .ensures) (c .before .if2 .taken)
+    (loaded-own _ _ _ _ _ _ _ _ _ _ _ _ _ _ _ _ _ _ _ _ (a .before .before .before .before .before .is-strict .ensures) (early-len e z) (early-own e z) (early-sectors e z) (l .load-all .ensures)) _ (c .nothing2 .ensures) (c .before .if2 .taken)
 
 same-length-6 : tie.Need-same-length-6
 same-length-6 c = search needs
@@ -122,7 +123,7 @@ returns-3 c =
     let e = early a .judge-early .ensures in
     let z = passed a .if1 .left in
     opens _ _ _ (tables (early a)) (zero a) _ _ _ _ _ _
-    (loaded-own _ _ _ _ _ _ _ _ _ _ _ _ _ _ _ _ _ _ _ _ (a .before .before .before .before .before .is-strict .ensures) (e .len z) (e .header z) (e .sectors z) (l .load-all .ensures)) _ (found-own _ _ _ _ _ (e .sectors z) (e .header z)) (c .if2 .left)
+    (loaded-own _ _ _ _ _ _ _ _ _ _ _ _ _ _ _ _ _ _ _ _ (a .before .before .before .before .before .is-strict .ensures) (early-len e z) (early-own e z) (early-sectors e z) (l .load-all .ensures)) _ (found-own _ _ _ _ _ (early-sectors e z) (early-own e z)) (c .if2 .left)
 
 pub open-tables-spec : {M : Type 1} → statement M
 open-tables-spec =

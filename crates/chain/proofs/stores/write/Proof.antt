@@ -3,7 +3,8 @@ use Prim.Native.Nat.{_-_}
 use native.Mathlib.Omega.{arith}
 use borrow.Author.Needs.{needs}
 use lib.ListN.{length, length-take}
-use Rattle.chain.proofs.Writing.{Writing, writing-begun, writing-length, writing-within, writing-over, turn-place, turn-inside, turn-id, turn-byte, turn-less, turn-on}
+use Rattle.chain.proofs.Writing.{Writing, writing-begun, writing-length, writing-within, writing-over, writing-stands, writing-on}
+use Rattle.chain.proofs.Standing.{stands-id, stands-byte, run-inside, run-less}
 use Rattle.chain.proofs.stores.write.Statement.{statement}
 use Rattle.chain.proofs.stores.write.Tie as tie
 
@@ -27,7 +28,7 @@ rem-x : tie.Need-rem-x Inv-loop μ-loop
 rem-x c = omega (arith, c .before .loop .inv .asks .lies .some)
 
 sub-lesser : tie.Need-sub-lesser Inv-loop μ-loop
-sub-lesser c = omega (arith, turn-byte (c .before .loop .inv) (c .loop-test .taken))
+sub-lesser c = omega (arith, stands-byte (writing-stands (c .before .loop .inv) (c .loop-test .taken)))
 
 sub-lesser-2 : tie.Need-sub-lesser-2 Inv-loop μ-loop
 sub-lesser-2 c = omega arith
@@ -42,13 +43,14 @@ div-id : tie.Need-div-id Inv-loop μ-loop
 div-id c = omega (arith, c .before .before .loop .inv .asks .lies .some)
 
 mul-id : tie.Need-mul-id Inv-loop μ-loop
-mul-id c = omega (arith, turn-place (c .before .before .loop .inv) (c .before .loop-test .taken))
+mul-id c = omega (arith, writing-stands (c .before .before .loop .inv) (c .before .loop-test .taken) .place)
 
 shared-slice-read-id : tie.Need-shared-slice-read-id Inv-loop μ-loop
-shared-slice-read-id c = turn-place (c .before .before .before .loop .inv) (c .before .before .loop-test .taken)
+shared-slice-read-id c = writing-stands (c .before .before .before .loop .inv) (c .before .before .loop-test .taken) .place
 
 cast-id : tie.Need-cast-id Inv-loop μ-loop
-cast-id c = omega (arith, turn-id (c .before .before .before .loop .inv) (c .before .before .loop-test .taken))
+cast-id c = let g = c .before .before .before .loop .inv in
+    omega (arith, stands-id (writing-stands g (c .before .before .loop-test .taken)), writing-length g)
 
 sub-write-at : tie.Need-sub-write-at Inv-loop μ-loop
 sub-write-at c = omega arith
@@ -61,17 +63,15 @@ part-write-at-end c = omega (arith, c .before .before .lesser .ensures .1)
 
 write-at-requires : tie.Need-write-at-requires Inv-loop μ-loop
 write-at-requires c κs = let p = turn c in
-    let g = p .before .before .loop .inv in
-    let t = p .before .loop-test .taken in
-    (turn-inside g t, (g .asks .lies .some, simp length-take (omega (arith, turn-byte g t, p .lesser .ensures .0))))
+    run-inside (writing-stands (p .before .before .loop .inv) (p .before .loop-test .taken)) _ (simp length-take (omega (arith, p .lesser .ensures .0)))
 
 loop-less : tie.Need-loop-less Inv-loop μ-loop
 loop-less c = let p = turn (c .before .before .before) in
-    turn-less (p .before .before .loop .inv) (p .before .loop-test .taken) (p .lesser .result) (p .lesser .ensures .2)
+    run-less (writing-stands (p .before .before .loop .inv) (p .before .loop-test .taken)) _ _ (p .lesser .result) (p .before .loop-test .taken) (p .lesser .ensures .2)
 
 loop-again : tie.Need-loop-again Inv-loop μ-loop
 loop-again c = let p = turn (c .before .before .before) in
-    turn-on (p .before .before .loop .inv) (p .before .loop-test .taken) (p .lesser .result) _ (p .lesser .ensures .0) (p .lesser .ensures .1) (c .before .before .write-at .ensures)
+    writing-on (p .before .before .loop .inv) (p .before .loop-test .taken) (p .lesser .result) _ (p .lesser .ensures .0) (p .lesser .ensures .1) (c .before .before .write-at .ensures)
 
 same-length : tie.Need-same-length Inv-loop μ-loop
 same-length c = writing-length (c .before .loop .inv)

@@ -1,8 +1,8 @@
 -- Where a sector begins nothing is zeroed; elsewhere the offset's sector is listed, and the zeros stand in it.
 use native.Mathlib.Omega.{arith}
-use native.Mathlib.Nat.{mod-lt}
 use mathlib.Core.Path.{sym}
-use Rattle.chain.proofs.Zeroed.{zero-begins, zero-run, zero-place, zero-inside, zero-id}
+use Rattle.chain.proofs.Standing.{stands-inside, stands-id, stands-byte}
+use Rattle.chain.proofs.Zeroed.{zero-begins, zero-run, zero-stands}
 use borrow.Author.Needs.{needs}
 use Rattle.chain.proofs.stores.zero_tail.Statement.{statement}
 use Rattle.chain.proofs.stores.zero_tail.Tie as tie
@@ -18,17 +18,17 @@ div-id : tie.Need-div-id
 div-id c = search needs
 
 mul-id : tie.Need-mul-id
-mul-id c = omega (arith, zero-place (c .before .before .before .pre) (c .if1 .left))
+mul-id c = omega (arith, zero-stands (c .before .before .before .pre) (c .if1 .left) .place)
 
 shared-slice-read-id : tie.Need-shared-slice-read-id
-shared-slice-read-id c = zero-place (c .before .before .before .before .pre) (c .before .if1 .left)
+shared-slice-read-id c = zero-stands (c .before .before .before .before .pre) (c .before .if1 .left) .place
 
 cast-id : tie.Need-cast-id
-cast-id c = omega (arith, zero-id (c .before .before .before .before .pre) (c .before .if1 .left))
+cast-id c = omega (arith, stands-id (zero-stands (c .before .before .before .before .pre) (c .before .if1 .left)))
 
 zero-at-requires : tie.Need-zero-at-requires
-zero-at-requires c κs = let g = c .before .before .before .before .before in
-    (zero-inside (g .pre) (c .before .before .if1 .left), (g .pre .lies .some, omega (arith, mod-lt (g .args .offset) (g .pre .lies .some))))
+zero-at-requires c κs = let b = zero-stands (c .before .before .before .before .before .pre) (c .before .before .if1 .left) in
+    (stands-inside b, (b .lies .some, omega (arith, stands-byte b)))
 
 same-length : tie.Need-same-length
 same-length c = search needs
