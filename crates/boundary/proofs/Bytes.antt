@@ -18,7 +18,7 @@ use Rattle.sectors.specs.declared.init.SectorInit.the-variants.{Zero, Fat, Difa
 use Rattle.header.proofs.RoundTrip.{listBytes-below}
 use Rattle.fat.specs.Lists.{ceil}
 use Rattle.chain.specs.Bytes.{chainBytes}
-use Rattle.chain.specs.Stores.{putChain, writeBytes, tailOf, zeroTail}
+use Rattle.stores.specs.Stores.{putChain, writeBytes, tailOf, zeroTail}
 use Rattle.disk.specs.Disk.{Disk, store, entryPlace, setFat, pushFat, listFat, listDifat, linkPlace, appendDifat, needsDifat, storePlace, holdPlace, listPlace, appendFat, ready, newSector, reused}
 use Rattle.room.specs.Needed.{resizeMore, writeMore}
 use Rattle.hand.specs.Hand.{Hand, Chain, point, takenId, takeSector, freeSectorOf, freeRun, linked, extendOne, extend}

@@ -1,6 +1,4 @@
 // The bytes of a chain of sectors (document 01, Calls on a chain): the reading of them.
-pub mod stores;
-
 use fat::load::lesser;
 ghost use mathlib.Core.Path.{_≡_};
 ghost use Prim.Native.Nat.{_+_, _*_, _≤_, _<_};

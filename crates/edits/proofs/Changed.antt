@@ -14,10 +14,10 @@ use Rattle.fat.specs.Lists.{ceil}
 use Rattle.fat.proofs.Listing.{ceil-enough}
 use Rattle.alloc.specs.Opened.{padded}
 use Rattle.chain.specs.Bytes.{chainBytes}
-use Rattle.chain.specs.Stores.{writeBytes, tailOf, zeroTail, Writable, Outside}
+use Rattle.stores.specs.Stores.{writeBytes, tailOf, zeroTail, Writable, Outside}
 use Rattle.chain.proofs.Bytes.{length-chain}
-use Rattle.chain.proofs.Stored.{write-chain, write-apart}
-use Rattle.chain.proofs.Zeroed.{tail-none, tail-some, zero-chain, zero-apart, zero-sector}
+use Rattle.stores.proofs.Stored.{write-chain, write-apart}
+use Rattle.stores.proofs.Zeroed.{tail-none, tail-some, zero-chain, zero-apart, zero-sector}
 use Rattle.room.specs.Needed.{resizeMore, writeMore}
 use Rattle.disk.proofs.Keeping.{sectors-inside}
 use Rattle.room.proofs.Needing.{ceil-whole, ceil-part, ceil-within}

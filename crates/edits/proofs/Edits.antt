@@ -13,7 +13,7 @@ use Rattle.sectors.specs.Sectors.{startOf, sectorOf}
 use Rattle.fat.specs.Lists.{ceil}
 use Rattle.alloc.specs.Opened.{padded}
 use Rattle.chain.specs.Bytes.{chainBytes}
-use Rattle.chain.proofs.Apart.{sector-before, sector-other}
+use Rattle.stores.proofs.Apart.{sector-before, sector-other}
 use Rattle.room.specs.Needed.{resizeMore, writeMore}
 use Rattle.hand.specs.Hand.{Chain, extend}
 use Rattle.hand.specs.Fits.{FitsChain, FitsMore}

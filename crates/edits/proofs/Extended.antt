@@ -12,7 +12,7 @@ use Rattle.lists.proofs.Cases.{below-or, same-or}
 use Rattle.lists.proofs.Splice.{length-part, getD-part}
 use Rattle.sectors.specs.Sectors.{startOf, sectorOf}
 use Rattle.chain.specs.Bytes.{chainBytes}
-use Rattle.chain.proofs.Apart.{sector-other}
+use Rattle.stores.proofs.Apart.{sector-other}
 use Rattle.disk.proofs.Keeping.{sectors-inside}
 use Rattle.hand.specs.Hand.{Chain, takenId, extendOne, extend}
 use Rattle.hand.specs.Fits.{FitsMore}

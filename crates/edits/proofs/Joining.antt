@@ -11,7 +11,7 @@ use Rattle.lists.specs.Lists.{part}
 use Rattle.lists.proofs.Splice.{length-part, getD-part}
 use Rattle.sectors.specs.Sectors.{startOf, sectorOf}
 use Rattle.chain.specs.Bytes.{chainBytes, Lies}
-use Rattle.chain.proofs.Apart.{sector-other}
+use Rattle.stores.proofs.Apart.{sector-other}
 use Rattle.chain.proofs.Bytes.{length-chain}
 use Rattle.disk.specs.Disk.{Disk}
 use Rattle.hand.specs.Hand.{Chain}

@@ -10,7 +10,7 @@ use Rattle.lists.proofs.Cases.{below-or}
 use Rattle.consts.specs.Consts.{endOfChain, freeSector}
 use Rattle.sectors.specs.Sectors.{startOf, sectorOf}
 use Rattle.chain.specs.Bytes.{chainBytes, Lies}
-use Rattle.chain.proofs.Apart.{sector-other}
+use Rattle.stores.proofs.Apart.{sector-other}
 use Rattle.disk.specs.Disk.{Disk}
 use Rattle.disk.proofs.Keeping.{sectors-inside}
 use Rattle.hand.specs.Hand.{Hand, Chain, freeSectorOf, freeRun}

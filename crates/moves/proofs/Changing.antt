@@ -13,9 +13,9 @@ use Rattle.sectors.proofs.Laws.{sector-within}
 use Rattle.fat.specs.Lists.{most, ceil}
 use Rattle.fat.proofs.Listing.{ceil-enough}
 use Rattle.chain.specs.Bytes.{Lies}
-use Rattle.chain.specs.Stores.{writeBytes, zeroTail, Writable}
-use Rattle.chain.proofs.Stored.{write-length, write-none}
-use Rattle.chain.proofs.Zeroed.{zero-length}
+use Rattle.stores.specs.Stores.{writeBytes, zeroTail, Writable}
+use Rattle.stores.proofs.Stored.{write-length, write-none}
+use Rattle.stores.proofs.Zeroed.{zero-length}
 use Rattle.room.specs.Needed.{resizeMore, writeMore}
 use Rattle.room.proofs.Needing.{write-within}
 use Rattle.hand.specs.Hand.{Hand, Chain, extend}

@@ -9,7 +9,7 @@ use Rattle.lists.specs.Lists.{choose}
 use Rattle.consts.specs.Consts.{endOfChain}
 use Rattle.fat.specs.Lists.{ceil}
 use Rattle.alloc.specs.Opened.{padded}
-use Rattle.chain.specs.Stores.{writeBytes, zeroTail}
+use Rattle.stores.specs.Stores.{writeBytes, zeroTail}
 use Rattle.room.specs.Needed.{resizeMore, writeMore}
 use Rattle.hand.specs.Fits.{FitsChain, FitsMore}
 use Rattle.hand.specs.Hand.{Hand, Chain, linked, freeRun, extend}

@@ -1,11 +1,11 @@
 // What a change makes of a listed chain (document 01, Write and Resize). Room is known before, so nothing fails halfway.
 use crate::extend::extend_by;
-use chain::stores::write as write_bytes;
-use chain::stores::zero_tail;
 use hand::free_run;
 use hand::link_last;
 use room::sectors_for;
 use room::sectors_past;
+use stores::write as write_bytes;
+use stores::zero_tail;
 ghost use mathlib.Core.Path.{_≡_};
 ghost use mathlib.Core.List.{List};
 ghost use Prim.Native.Nat.{ℕ, _+_, _-_};

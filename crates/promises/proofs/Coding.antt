@@ -17,10 +17,10 @@ use Rattle.sectors.specs.Sectors.{startOf, perSector}
 use Rattle.sectors.specs.declared.init.SectorInit.the-variants.{Zero, Fat, Difat}
 use Rattle.fat.specs.Lists.{ceil, fatCount, difatCount}
 use Rattle.fat.proofs.Listing.{ceil-enough}
-use Rattle.chain.specs.Stores.{Writable, Outside}
-use Rattle.chain.proofs.Apart.{other-outside, header-outside}
-use Rattle.chain.proofs.Stored.{write-length, write-apart}
-use Rattle.chain.proofs.Zeroed.{zero-length, zero-apart}
+use Rattle.stores.specs.Stores.{Writable, Outside}
+use Rattle.stores.proofs.Apart.{other-outside, header-outside}
+use Rattle.stores.proofs.Stored.{write-length, write-apart}
+use Rattle.stores.proofs.Zeroed.{zero-length, zero-apart}
 use Rattle.disk.specs.Disk.{Disk, store, setFat, pushFat, listFat, listDifat, appendDifat, needsDifat, storePlace, holdPlace, listPlace, appendFat, oneMore, ready, newSector, reused}
 use Rattle.disk.specs.Fits.{FitsFat, FitsNew}
 use Rattle.room.specs.Needed.{resizeMore, writeMore}

@@ -18,7 +18,7 @@ use Rattle.sectors.specs.Sectors.{startOf, perSector}
 use Rattle.sectors.specs.Init.{initBytes}
 use Rattle.sectors.specs.declared.init.SectorInit.the-variants.{Fat, Difat}
 use Rattle.sectors.proofs.New.{length-init}
-use Rattle.chain.proofs.Apart.{sector-before}
+use Rattle.stores.proofs.Apart.{sector-before}
 
 -- entry x of sector a
 abbrev pub slot : ℕ → ℕ → ℕ → ℕ

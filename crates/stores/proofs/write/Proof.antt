@@ -3,10 +3,10 @@ use Prim.Native.Nat.{_-_}
 use native.Mathlib.Omega.{arith}
 use borrow.Author.Needs.{needs}
 use lib.ListN.{length, length-take}
-use Rattle.chain.proofs.Writing.{Writing, writing-begun, writing-length, writing-within, writing-over, writing-stands, writing-on}
+use Rattle.stores.proofs.Writing.{Writing, writing-begun, writing-length, writing-within, writing-over, writing-stands, writing-on}
 use Rattle.chain.proofs.Standing.{stands-id, stands-byte, run-inside, run-less}
-use Rattle.chain.proofs.stores.write.Statement.{statement}
-use Rattle.chain.proofs.stores.write.Tie as tie
+use Rattle.stores.proofs.write.Statement.{statement}
+use Rattle.stores.proofs.write.Tie as tie
 
 abbrev Inv-loop : tie.InvT-loop
 Inv-loop image₀ s ids offset buf done₀ image done = Writing s image₀ ids offset buf image done

@@ -12,11 +12,11 @@ use Rattle.lists.specs.Lists.{splice}
 use Rattle.lists.proofs.Cases.{below-or, same-or}
 use Rattle.lists.proofs.Splice.{length-part, putMid-splice}
 use Rattle.sectors.specs.Sectors.{startOf, sectorOf}
 use Rattle.chain.specs.Bytes.{chainBytes}
-use Rattle.chain.specs.Stores.{writeBytes, tailOf, zeroTail, Writable, Outside}
-use Rattle.chain.proofs.Stored.{write-length, write-chain, write-apart, write-sector, write-none, write-run}
+use Rattle.stores.specs.Stores.{writeBytes, tailOf, zeroTail, Writable, Outside}
+use Rattle.stores.proofs.Stored.{write-length, write-chain, write-apart, write-sector, write-none, write-run}
 use Rattle.chain.proofs.Standing.{Stands, stands-byte, lent-run}
-use Rattle.chain.proofs.Writing.{sector-back}
+use Rattle.stores.proofs.Writing.{sector-back}
 
 -- zeros over the part that is lent for them
 pub zeroed-run : (sector out : List ℕ) (x : ℕ) → x ≤ length sector → out ≡ replicate (length (take (length sector - x) (drop x sector))) 0

@@ -3,7 +3,7 @@ use Prim.Native.Nat.{ℕ}
 use mathlib.Core.Path.{_≡_, refl}
 use mathlib.Core.List.{List, [], _∷_}
 use Rattle.lists.specs.Lists.{part}
-use Rattle.chain.specs.Stores.{writeBytes, zeroTail}
+use Rattle.stores.specs.Stores.{writeBytes, zeroTail}
 
 -- a header and three sectors of 4 bytes, each byte its own place
 abbrev small : List ℕ

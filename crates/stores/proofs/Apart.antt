@@ -10,9 +10,9 @@ use lib.Seq.{ext-getD}
 use Rattle.lists.proofs.Cases.{below-or}
 use Rattle.lists.proofs.Splice.{getD-part}
 use Rattle.sectors.specs.Sectors.{startOf, sectorOf}
 use Rattle.chain.specs.Bytes.{chainBytes, Lies}
-use Rattle.chain.specs.Stores.{Outside}
+use Rattle.stores.specs.Stores.{Outside}
 use Rattle.chain.proofs.Bytes.{chain-in}
 
 -- a sector ends where the next one begins, or before
 pub sector-before : (S a b : ℕ) → a < b → startOf S a + S ≤ startOf S b

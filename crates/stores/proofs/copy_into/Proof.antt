@@ -1,8 +1,8 @@
 -- The part that is lent is as long as the run, so it comes back as the run.
-use Rattle.chain.proofs.Writing.{copied-run}
+use Rattle.stores.proofs.Writing.{copied-run}
 use borrow.Author.Needs.{needs}
-use Rattle.chain.proofs.stores.copy_into.Statement.{statement}
-use Rattle.chain.proofs.stores.copy_into.Tie as tie
+use Rattle.stores.proofs.copy_into.Statement.{statement}
+use Rattle.stores.proofs.copy_into.Tie as tie
 
 add-end : tie.Need-add-end
 add-end c = search needs

@@ -11,10 +11,10 @@ use Rattle.lists.specs.Lists.{splice, part}
 use Rattle.lists.proofs.Cases.{below-or, same-or}
 use Rattle.lists.proofs.Splice.{length-part, getD-part, length-splice, splice-below, splice-inside, splice-above, is-splice, splice-nil, splice-append}
 use Rattle.sectors.specs.Sectors.{startOf, sectorOf}
 use Rattle.chain.specs.Bytes.{chainBytes, Lies}
-use Rattle.chain.specs.Stores.{putChain, writeBytes, Writable, Outside}
-use Rattle.chain.proofs.Apart.{sector-other, other-outside, chain-byte, same-image}
+use Rattle.stores.specs.Stores.{putChain, writeBytes, Writable, Outside}
+use Rattle.stores.proofs.Apart.{sector-other, other-outside, chain-byte, same-image}
 use Rattle.chain.proofs.Bytes.{length-chain, chain-place}
 
 -- a run put into one sector of the chain
 module _ (S : ℕ) (img ids : List ℕ) (w : Writable S (length img) ids 0 0) (q x : ℕ) (ys : List ℕ) (hq : q < length ids) (hx : x + length ys ≤ S) where

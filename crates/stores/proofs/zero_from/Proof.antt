@@ -1,8 +1,8 @@
 -- The part that is lent is the rest of the sector, and it comes back as zeros.
-use Rattle.chain.proofs.Zeroed.{zeroed-run}
+use Rattle.stores.proofs.Zeroed.{zeroed-run}
 use borrow.Author.Needs.{needs}
-use Rattle.chain.proofs.stores.zero_from.Statement.{statement}
-use Rattle.chain.proofs.stores.zero_from.Tie as tie
+use Rattle.stores.proofs.zero_from.Statement.{statement}
+use Rattle.stores.proofs.zero_from.Tie as tie
 
 sub-fill : tie.Need-sub-fill
 sub-fill c = search needs

@@ -6,7 +6,7 @@ ghost use Prim.Native.Nat.{_+_, _-_, _≤_, _<_};
 ghost use lib.ListN.{length, replicate};
 ghost use Rattle.lists.specs.Lists.{splice};
 ghost use Rattle.sectors.specs.Sectors.{startOf};
-ghost use Rattle.chain.specs.Stores.{writeBytes, zeroTail, Writable};
+ghost use Rattle.stores.specs.Stores.{writeBytes, zeroTail, Writable};
 
 // Copies a run of bytes over a sector's bytes from x on.
 fn copy_into(sector: &mut [u8], x: usize, run: &[u8])

@@ -1,11 +1,11 @@
 -- Where a sector begins nothing is zeroed; elsewhere the offset's sector is listed, and the zeros stand in it.
 use native.Mathlib.Omega.{arith}
 use mathlib.Core.Path.{sym}
 use Rattle.chain.proofs.Standing.{stands-inside, stands-id, stands-byte}
-use Rattle.chain.proofs.Zeroed.{zero-begins, zero-run, zero-stands}
+use Rattle.stores.proofs.Zeroed.{zero-begins, zero-run, zero-stands}
 use borrow.Author.Needs.{needs}
-use Rattle.chain.proofs.stores.zero_tail.Statement.{statement}
-use Rattle.chain.proofs.stores.zero_tail.Tie as tie
+use Rattle.stores.proofs.zero_tail.Statement.{statement}
+use Rattle.stores.proofs.zero_tail.Tie as tie
 
 rem-x : tie.Need-rem-x
 rem-x c = search needs

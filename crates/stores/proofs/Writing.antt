@@ -9,10 +9,10 @@ use lib.Seq.{length-take-le, take-all, take-add}
 use Rattle.lists.specs.Lists.{splice, part}
 use Rattle.lists.proofs.Splice.{length-part, length-splice, splice-whole, splice-part}
 use Rattle.sectors.specs.Sectors.{startOf}
-use Rattle.chain.specs.Stores.{writeBytes, Writable}
+use Rattle.stores.specs.Stores.{writeBytes, Writable}
 use Rattle.chain.proofs.Bytes.{chain-place}
 use Rattle.chain.proofs.Standing.{Stands, stands-byte, lent-run, back-run}
-use Rattle.chain.proofs.Stored.{write-length, write-none, write-run, write-more}
+use Rattle.stores.proofs.Stored.{write-length, write-none, write-run, write-more}
 
 -- a run copied over the part that is lent for it
 pub copied-run : (sector run out : List ℕ) (x : ℕ) → x + length run ≤ length sector → out ≡ splice (take (x + length run - x) (drop x sector)) 0 run

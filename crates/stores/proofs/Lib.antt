@@ -1,0 +1,5 @@
+pub mod Apart
+pub mod Examples
+pub mod Stored
+pub mod Writing
+pub mod Zeroed
