@@ -18,10 +18,12 @@ use Rattle.walk.specs.declared.Walked.the-variants.{Listed, Refused}
 use Rattle.hand.specs.Hand.{Chain}
 use Rattle.hand.specs.Fits.{FitsChain}
 use Rattle.moves.proofs.Changing.{chain-room}
-use Rattle.moves.specs.Change.{resized, written, FitsResize, FitsWrite}
+use Rattle.moves.specs.Change.{seekOf, editMore, edited, FitsEdit}
 use Rattle.moves.specs.declared.change.Changed.{Changed}
+use Rattle.moves.specs.declared.change.Edit.{Edit}
+use Rattle.moves.specs.declared.change.Edit.the-variants.{Write, Resize}
 use Rattle.cfb.specs.Calls.{stateLen, chainIds, idsLeft, toldBy}
-use Rattle.cfb.specs.Changes.{noRoom, resizeRows, resizeNo, writeRows, writeNo, chainFrom, stateFrom, tablesIn, startIn, Changes, Judged, doneWith}
+use Rattle.cfb.specs.Changes.{noRoom, resizeRows, resizeNo, writeRows, writeNo, editNo, chainFrom, stateFrom, tablesIn, startIn, Changes, Judged, doneWith}
 use Rattle.cfb.specs.Listed.{answerFrom}
 use Rattle.cfb.specs.declared.State.{State}
 use Rattle.cfb.specs.declared.Called.{Called}
@@ -86,40 +88,32 @@ judged-chain s img t ids start k w ids' l c e =
     let mine : ids' ≡ padded (chainIds s t start) (length ids) = l .list ∙ left-made k ids (chainIds s t start) (told-by .0) in
     rw (mine, told-by .1)
 
--- a change that nothing stands against can be made
-module _ (s : State) (img : List ℕ) (t : Tables) (room start : ℕ) where
-  pub resize-ready : (len : ℕ) → resizeNo s img t room start len ≡ 0 → FitsResize (stateLen s) (roomOf (stateLen s) (length img)) len (chainFrom s img t room start)
-  unfolding chainFrom noRoom resizeNo resizeRows
-  resize-ready len z =
-      let passed = rows-passed s img t room start _ z in
-      record {
-        fits = record { fits = ready-fits s img t room start (passed .0); room = ltb-false _ _ (row-passed 24 _ _ (λ q. omega arith) (passed .1) .0) };
-        apart = ready-apart s img t room start (passed .0);
-      }
-
-  pub write-ready : (offset bytes : ℕ) → writeNo s img t room start offset bytes ≡ 0 → FitsWrite (stateLen s) (roomOf (stateLen s) (length img)) offset bytes (chainFrom s img t room start)
-  unfolding chainFrom noRoom writeNo writeRows
-  write-ready offset bytes z =
-      let passed = rows-passed s img t room start _ z in
-      let within = row-passed 23 _ _ (λ q. omega arith) (passed .1) in
-      record {
-        fits = record { fits = ready-fits s img t room start (passed .0); room = ltb-false _ _ (row-passed 24 _ _ (λ q. omega arith) (within .1) .0) };
-        apart = ready-apart s img t room start (passed .0);
-        seeks = ltb-false _ _ (within .0);
-      }
+-- an edit that nothing stands against can be made
+pub edit-ready : (s : State) (img : List ℕ) (t : Tables) (room start : ℕ) (edit : Edit) (bytes : ℕ) → editNo s img t room start edit bytes ≡ 0
+    → FitsEdit (stateLen s) (roomOf (stateLen s) (length img)) edit bytes (chainFrom s img t room start)
+unfolding chainFrom noRoom seekOf editMore resizeNo resizeRows writeNo writeRows
+edit-ready s img t room start (Write offset) bytes z =
+    let passed = rows-passed s img t room start _ z in
+    let within = row-passed 23 _ _ (λ q. omega arith) (passed .1) in
+    record {
+      fits = record { fits = ready-fits s img t room start (passed .0); room = ltb-false _ _ (row-passed 24 _ _ (λ q. omega arith) (within .1) .0) };
+      apart = ready-apart s img t room start (passed .0);
+      seeks = ltb-false _ _ (within .0);
+    }
+edit-ready s img t room start (Resize len) bytes z =
+    let passed = rows-passed s img t room start _ z in
+    record {
+      fits = record { fits = ready-fits s img t room start (passed .0); room = ltb-false _ _ (row-passed 24 _ _ (λ q. omega arith) (passed .1) .0) };
+      apart = ready-apart s img t room start (passed .0);
+      seeks = omega arith;
+    }
 
 -- what is said by the length of a state's sectors, and of the chain in hand, is said by an equal length and of an equal chain
-pub resize-own : (img : List ℕ) (len : ℕ) {S S' : ℕ} {c c' : Chain} → S ≡ S' → c ≡ c' → FitsResize S' (roomOf S' (length img)) len c' → FitsResize S (roomOf S (length img)) len c
-resize-own img len p q f = rw (p, q) f
+pub edit-own : (img : List ℕ) (edit : Edit) (bytes : ℕ) {S S' : ℕ} {c c' : Chain} → S ≡ S' → c ≡ c' → FitsEdit S' (roomOf S' (length img)) edit bytes c' → FitsEdit S (roomOf S (length img)) edit bytes c
+edit-own img edit bytes p q f = rw (p, q) f
 
-pub resized-own : (len : ℕ) {S S' : ℕ} {c c' : Chain} → S ≡ S' → c ≡ c' → resized S c len ≡ resized S' c' len
-resized-own len p q = rw (p, q)
-
-pub write-own : (img : List ℕ) (offset bytes : ℕ) {S S' : ℕ} {c c' : Chain} → S ≡ S' → c ≡ c' → FitsWrite S' (roomOf S' (length img)) offset bytes c' → FitsWrite S (roomOf S (length img)) offset bytes c
-write-own img offset bytes p q f = rw (p, q) f
-
-pub written-own : (offset : ℕ) (buf : List ℕ) {S S' : ℕ} {c c' : Chain} → S ≡ S' → c ≡ c' → written S c offset buf ≡ written S' c' offset buf
-written-own offset buf p q = rw (p, q)
+pub edited-own : (edit : Edit) (buf : List ℕ) {S S' : ℕ} {c c' : Chain} → S ≡ S' → c ≡ c' → edited S c edit buf ≡ edited S' c' edit buf
+edited-own edit buf p q = rw (p, q)
 
 -- a chain in hand that fits: its image holds its header and its sectors, and its list its ids
 fits-lies : (S R : ℕ) (c : Chain) → FitsChain S R c

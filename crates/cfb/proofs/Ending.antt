@@ -17,6 +17,9 @@ use Rattle.fat.specs.Lists.{roomOf}
 use Rattle.disk.specs.Disk.{countAfter}
 use Rattle.disk.proofs.Fitting.{count-none}
 use Rattle.moves.specs.declared.change.Changed.{Changed}
+use Rattle.moves.specs.Change.{bytesOf}
+use Rattle.moves.specs.declared.change.Edit.{Edit}
+use Rattle.moves.specs.declared.change.Edit.the-variants.{Write, Resize}
 use Rattle.cfb.specs.Calls.{stateLen}
 use Rattle.cfb.specs.Changes.{noRoom, startIn, doneWith}
 use Rattle.cfb.specs.declared.State.{State}
@@ -52,8 +55,15 @@ start-some ids count n = sym (ap (λ (b : Bool). choose b endOfChain (getD ids 0
 pub used-own : (n most : ℕ) {len len' : ℕ} → len ≡ len' → (n + 1) * len' ≤ most → (n + 1) * len ≤ most
 used-own n most e h = rw e h
 
+-- how many bytes an edit tells of
+pub bytes-write : (edit : Edit) (given offset : ℕ) → edit ≡ Write offset → given ≡ bytesOf edit given
+bytes-write edit given offset e = rw e
+
+pub bytes-resize : (edit : Edit) (given len : ℕ) → edit ≡ Resize len → 0 ≡ bytesOf edit given
+bytes-resize edit given len e = rw e
+
 -- the answer and the state
-pub done-as : (s : State) (img ids : List ℕ) (c : Changed) (bytes start len : ℕ) (header : Header) → start ≡ startIn ids (c .ids) → len ≡ stateLen s → header ≡ headerOf img
-    → record { answer = Done (c .ids) start bytes; state = record { mode = s .mode; used = (c .sectors + 1) * len; sectors = c .sectors; free = c .free; header = header } } ≡ doneWith s img ids c bytes
+pub done-as : (s : State) (img ids : List ℕ) (c : Changed) (bytes told start len : ℕ) (header : Header) → start ≡ startIn ids (c .ids) → told ≡ bytes → len ≡ stateLen s → header ≡ headerOf img
+    → record { answer = Done (c .ids) start told; state = record { mode = s .mode; used = (c .sectors + 1) * len; sectors = c .sectors; free = c .free; header = header } } ≡ doneWith s img ids c bytes
 unfolding doneWith
-done-as s img ids c bytes start len header p q r = rw (p, q, r)
+done-as s img ids c bytes told start len header p b q r = rw (p, b, q, r)

@@ -16,10 +16,28 @@ use Rattle.walk.specs.declared.Walked.{Walked}
 use Rattle.walk.specs.declared.Walked.the-variants.{Listed, Refused}
 use Rattle.room.specs.Needed.{resizeMore, writeMore}
 use Rattle.cfb.specs.Calls.{stateLen, agreedRows, walkRows, chainIds, idsLeft}
-use Rattle.cfb.specs.Changes.{changeRows, changeNo, noRoom, resizeRows, resizeNo, writeRows, writeNo, Listing, Judged}
+use Rattle.moves.specs.Change.{seekOf, editMore}
+use Rattle.moves.specs.declared.change.Edit.{Edit}
+use Rattle.moves.specs.declared.change.Edit.the-variants.{Write, Resize}
+use Rattle.cfb.specs.Changes.{changeRows, changeNo, noRoom, resizeRows, resizeNo, writeRows, writeNo, editNo, Listing, Judged}
 use Rattle.cfb.specs.Listed.{walkedAs}
 use Rattle.cfb.specs.declared.State.{State}
 use Rattle.cfb.proofs.Answering.{walked-refused, walked-listed, left-zero}
+
+-- the byte that an edit begins at, by its kind
+pub seek-write : (edit : Edit) (offset : ℕ) → edit ≡ Write offset → offset ≡ seekOf edit
+unfolding seekOf
+seek-write edit offset e = rw e
+
+pub seek-resize : (edit : Edit) (len : ℕ) → edit ≡ Resize len → 0 ≡ seekOf edit
+unfolding seekOf
+seek-resize edit len e = rw e
+
+pub seeks-past : (edit : Edit) (at end : ℕ) → at ≡ seekOf edit → end < at → end < seekOf edit
+seeks-past edit at end e h = rw e at h
+
+pub seeks-within : (edit : Edit) (at end : ℕ) → at ≡ seekOf edit → at ≤ end → seekOf edit ≤ end
+seeks-within edit at end e h = rw e at h
 
 -- a table that refuses nothing passes over its first row
 pub row-passed : (n : ℕ) (b : Bool) (rows : List Row) → n ≢ 0 → refusal (row n b ∷ rows) ≡ 0 → (b ≡ false) × (refusal rows ≡ 0)
@@ -56,13 +74,13 @@ module _ (s : State) (lent : ℕ) (w : Walked) (ids : List ℕ) (l : Listing s l
         list = l .listed .list ∙ ap (λ (k : ℕ). idsLeft k (l .before) chain) (sym same);
       }
 
-  pub resize-early : (len j : ℕ) → w ≡ Refused j → Judged (resizeNo s (l .image) (l .tables) (length (l .before)) (l .start) len) (l .before) chain w ids
-  unfolding resizeNo resizeRows
-  resize-early len j e = judged-early _ j e
+  abbrev number : Edit → ℕ → ℕ
+  number edit bytes = editNo s (l .image) (l .tables) (length (l .before)) (l .start) edit bytes
 
-  pub write-early : (offset bytes j : ℕ) → w ≡ Refused j → Judged (writeNo s (l .image) (l .tables) (length (l .before)) (l .start) offset bytes) (l .before) chain w ids
-  unfolding writeNo writeRows
-  write-early offset bytes j e = judged-early _ j e
+  pub edit-early : (edit : Edit) (bytes j : ℕ) → w ≡ Refused j → Judged (number edit bytes) (l .before) chain w ids
+  unfolding resizeNo resizeRows writeNo writeRows
+  edit-early (Write offset) bytes j e = judged-early _ j e
+  edit-early (Resize len) bytes j e = judged-early _ j e
 
   module _ (c : ℕ) (e : w ≡ Listed c) where
     done : (changeNo s (l .image) (l .tables) (length (l .before)) (l .start) ≡ 0) × (c ≡ length chain)
@@ -95,45 +113,38 @@ module _ (s : State) (lent : ℕ) (w : Walked) (ids : List ℕ) (l : Listing s l
 
     -- by a length that is that of the state's sectors
     module _ (S : ℕ) (own : S ≡ stateLen s) where
-      -- a resize
-      module _ (len : ℕ) where
-        abbrev resizeLast : ℕ → ℕ → List Row
-        resizeLast n count = row 24 (noRoom s n (resizeMore (stateLen s) count len)) ∷ []
+      -- the rows of a resize and of a write
+      abbrev resizeLast : ℕ → ℕ → ℕ → List Row
+      resizeLast len n count = row 24 (noRoom s n (resizeMore (stateLen s) count len)) ∷ []
 
-        resize-row : noRoom s lent (resizeMore (stateLen s) c len) ≡ noRoom s lent (resizeMore S c len)
-        resize-row = ap (λ (x : ℕ). noRoom s lent (resizeMore x c len)) (sym own)
+      abbrev writeLast : ℕ → ℕ → ℕ → ℕ → List Row
+      writeLast offset bytes n count = row 23 (ltb (stateLen s * count) offset) ∷ row 24 (noRoom s n (writeMore (stateLen s) count offset bytes)) ∷ []
 
-        pub resize-full : (ids' : List ℕ) → noRoom s lent (resizeMore S c len) ≡ true → ids' ≡ replicate (length ids) 0
-            → Judged (resizeNo s (l .image) (l .tables) (length (l .before)) (l .start) len) (l .before) chain (Refused 24) ids'
-        unfolding resizeNo resizeRows
-        resize-full ids' h z = judged-refused resizeLast 24 ids' (λ q. omega arith) (λ q. omega arith) (stop 24 _ [] (resize-row ∙ h)) z
+      room-row : (more : ℕ → ℕ) → noRoom s lent (more (stateLen s)) ≡ noRoom s lent (more S)
+      room-row more = ap (λ (x : ℕ). noRoom s lent (more x)) (sym own)
 
-        pub resize-listed : noRoom s lent (resizeMore S c len) ≡ false → Judged (resizeNo s (l .image) (l .tables) (length (l .before)) (l .start) len) (l .before) chain (Listed c) ids
-        unfolding resizeNo resizeRows refusal
-        resize-listed h = judged-listed resizeLast (pass 24 _ [] (resize-row ∙ h))
+      within : (offset bytes : ℕ) → offset ≤ S * c → refusal (writeLast offset bytes lent c) ≡ refusal (row 24 (noRoom s lent (writeMore (stateLen s) c offset bytes)) ∷ [])
+      within offset bytes h = pass 23 _ _ (le-ltb _ offset (rw (sym own) h))
 
-      -- a write
-      module _ (offset bytes : ℕ) where
-        abbrev writeLast : ℕ → ℕ → List Row
-        writeLast n count = row 23 (ltb (stateLen s * count) offset) ∷ row 24 (noRoom s n (writeMore (stateLen s) count offset bytes)) ∷ []
+      -- an edit that begins past the end
+      pub edit-past : (edit : Edit) (bytes : ℕ) (ids' : List ℕ) → S * c < seekOf edit → ids' ≡ replicate (length ids) 0 → Judged (number edit bytes) (l .before) chain (Refused 23) ids'
+      unfolding seekOf writeNo writeRows
+      edit-past (Write offset) bytes ids' h z =
+          judged-refused (writeLast offset bytes) 23 ids' (λ q. omega arith) (λ q. omega arith) (stop 23 _ _ (lt-ltb _ offset (rw (sym own) h))) z
+      edit-past (Resize len) bytes ids' h z = absurd (omega (arith, h))
 
-        write-row : noRoom s lent (writeMore (stateLen s) c offset bytes) ≡ noRoom s lent (writeMore S c offset bytes)
-        write-row = ap (λ (x : ℕ). noRoom s lent (writeMore x c offset bytes)) (sym own)
+      -- one that has no room
+      pub edit-full : (edit : Edit) (bytes : ℕ) (ids' : List ℕ) → seekOf edit ≤ S * c → noRoom s lent (editMore S c edit bytes) ≡ true → ids' ≡ replicate (length ids) 0
+          → Judged (number edit bytes) (l .before) chain (Refused 24) ids'
+      unfolding seekOf editMore resizeNo resizeRows writeNo writeRows
+      edit-full (Write offset) bytes ids' i h z =
+          judged-refused (writeLast offset bytes) 24 ids' (λ q. omega arith) (λ q. omega arith)
+          (within offset bytes i ∙ stop 24 _ [] (room-row (λ (x : ℕ). writeMore x c offset bytes) ∙ h)) z
+      edit-full (Resize len) bytes ids' i h z =
+          judged-refused (resizeLast len) 24 ids' (λ q. omega arith) (λ q. omega arith) (stop 24 _ [] (room-row (λ (x : ℕ). resizeMore x c len) ∙ h)) z
 
-        within : offset ≤ S * c → refusal (writeLast lent c) ≡ refusal (row 24 (noRoom s lent (writeMore (stateLen s) c offset bytes)) ∷ [])
-        within h = pass 23 _ _ (le-ltb _ offset (rw (sym own) h))
-
-        pub write-past : (ids' : List ℕ) → S * c < offset → ids' ≡ replicate (length ids) 0
-            → Judged (writeNo s (l .image) (l .tables) (length (l .before)) (l .start) offset bytes) (l .before) chain (Refused 23) ids'
-        unfolding writeNo writeRows
-        write-past ids' h z = judged-refused writeLast 23 ids' (λ q. omega arith) (λ q. omega arith) (stop 23 _ _ (lt-ltb _ offset (rw (sym own) h))) z
-
-        pub write-full : (ids' : List ℕ) → offset ≤ S * c → noRoom s lent (writeMore S c offset bytes) ≡ true → ids' ≡ replicate (length ids) 0
-            → Judged (writeNo s (l .image) (l .tables) (length (l .before)) (l .start) offset bytes) (l .before) chain (Refused 24) ids'
-        unfolding writeNo writeRows
-        write-full ids' i h z = judged-refused writeLast 24 ids' (λ q. omega arith) (λ q. omega arith) (within i ∙ stop 24 _ [] (write-row ∙ h)) z
-
-        pub write-listed : offset ≤ S * c → noRoom s lent (writeMore S c offset bytes) ≡ false
-            → Judged (writeNo s (l .image) (l .tables) (length (l .before)) (l .start) offset bytes) (l .before) chain (Listed c) ids
-        unfolding writeNo writeRows refusal
-        write-listed i h = judged-listed writeLast (within i ∙ pass 24 _ [] (write-row ∙ h))
+      -- one that nothing stands against
+      pub edit-listed : (edit : Edit) (bytes : ℕ) → seekOf edit ≤ S * c → noRoom s lent (editMore S c edit bytes) ≡ false → Judged (number edit bytes) (l .before) chain (Listed c) ids
+      unfolding seekOf editMore resizeNo resizeRows writeNo writeRows refusal
+      edit-listed (Write offset) bytes i h = judged-listed (writeLast offset bytes) (within offset bytes i ∙ pass 24 _ [] (room-row (λ (x : ℕ). writeMore x c offset bytes) ∙ h))
+      edit-listed (Resize len) bytes i h = judged-listed (resizeLast len) (pass 24 _ [] (room-row (λ (x : ℕ). resizeMore x c len) ∙ h))

@@ -90,6 +90,10 @@ abbrev pub toldBy : Answer → List ℕ
 toldBy (Done ids start bytes) = 0 ∷ ids ∷ start ∷ bytes ∷ []
 toldBy (Refused k) = k ∷ []
 
+-- the number among them: 0 for an acceptance
+abbrev pub answerNo : Answer → ℕ
+answerNo a = getD (toldBy a) 0 0
+
 -- the numbers of a call that ends with k
 unfoldable pub told : ℕ → ℕ → ℕ → ℕ → List ℕ
 told k ids start bytes = choose (eqb k 0) (0 ∷ ids ∷ start ∷ bytes ∷ []) (k ∷ [])

@@ -17,11 +17,13 @@ use Rattle.alloc.specs.Opened.{padded}
 use Rattle.disk.specs.Disk.{countAfter}
 use Rattle.room.specs.Needed.{resizeMore, writeMore}
 use Rattle.hand.specs.Hand.{Chain}
-use Rattle.moves.specs.Change.{resized, written}
+use Rattle.moves.specs.Change.{resized, written, edited, bytesOf}
 use Rattle.walk.specs.declared.Walked.{Walked}
 use Rattle.cfb.specs.Calls.{stateLen, walked, agreedRows, walkRows, chainIds, idsLeft, toldBy, told}
 use Rattle.cfb.specs.Listed.{walkedAs}
 use Rattle.moves.specs.declared.change.Changed.{Changed}
+use Rattle.moves.specs.declared.change.Edit.{Edit}
+use Rattle.moves.specs.declared.change.Edit.the-variants.{Write, Resize}
 use Rattle.cfb.specs.declared.State.{State}
 use Rattle.cfb.specs.declared.Answer.the-variants.{Done}
 use Rattle.cfb.specs.declared.Called.{Called}
@@ -70,6 +72,10 @@ resizeNo s img t room start len = refusal (resizeRows s img t room start len)
 unfoldable pub writeNo : State → List ℕ → Tables → ℕ → ℕ → ℕ → ℕ → ℕ
 unfolding writeRows
 writeNo s img t room start offset bytes = refusal (writeRows s img t room start offset bytes)
+
+abbrev pub editNo : State → List ℕ → Tables → ℕ → ℕ → Edit → ℕ → ℕ
+editNo s img t room start (Write offset) bytes = writeNo s img t room start offset bytes
+editNo s img t room start (Resize len) bytes = resizeNo s img t room start len
 
 -- the chain in hand before a change: image, tables and numbers as they are lent, and the ids of the chain, with zeros after them
 unfoldable pub chainFrom : State → List ℕ → Tables → ℕ → ℕ → Chain
@@ -121,6 +127,11 @@ ChainResizes s img t ids start len r img' t' ids' =
 abbrev pub ChainWrites : State → List ℕ → Tables → List ℕ → ℕ → ℕ → List ℕ → Called → List ℕ → Tables → List ℕ → Type 0
 ChainWrites s img t ids start offset buf r img' t' ids' =
     Changes s img t ids (writeNo s img t (length ids) start offset (length buf)) (written (stateLen s) (chainFrom s img t (length ids) start) offset buf) (length buf) r img' t' ids'
+
+-- either, by the edit
+abbrev pub ChainEdits : State → List ℕ → Tables → List ℕ → ℕ → Edit → List ℕ → Called → List ℕ → Tables → List ℕ → Type 0
+ChainEdits s img t ids start edit buf r img' t' ids' =
+    Changes s img t ids (editNo s img t (length ids) start edit (length buf)) (edited (stateLen s) (chainFrom s img t (length ids) start) edit buf) (bytesOf edit (length buf)) r img' t' ids'
 
 -- a change is judged and its chain listed: the answer, and the id list
 pub record ChangeListed (s : State) (img : List ℕ) (t : Tables) (ids : List ℕ) (start : ℕ) (r : Walked) (ids' : List ℕ) : Type 0 where

@@ -7,18 +7,19 @@ use crate::calls::len_of;
 use alloc::early::room_of;
 use header::content::content;
 use moves::change::Changed;
+use moves::change::Edit;
+use moves::change::more_of;
 use room::has_room;
-use room::sectors_over;
-use room::sectors_past;
 use walk::Walked;
 ghost use mathlib.Core.Path.{_≡_};
 ghost use Prim.Native.Nat.{_+_, _*_, _≤_, _<_};
 ghost use lib.Dec.{eqb};
 ghost use lib.ListN.{length, getD};
 ghost use Rattle.fat.specs.Lists.{roomOf};
+ghost use Rattle.moves.specs.Change.{seekOf, bytesOf};
 ghost use Rattle.cfb.specs.Calls.{stateLen, chainIds};
 ghost use Rattle.cfb.specs.Listed.{walkedNo};
-ghost use Rattle.cfb.specs.Changes.{ChangeListed, noRoom, writeNo, resizeNo, Listing, Judged, startIn, doneWith};
+ghost use Rattle.cfb.specs.Changes.{ChangeListed, noRoom, editNo, Listing, Judged, startIn, doneWith};
 
 // The number of a walk's answer: 0 where ids are listed.
 fn number_of(walked: Walked) -> u32
@@ -91,53 +92,51 @@ pub(crate) fn no_room(s: State, lent: usize, more: usize) -> bool
     !has_room(len_of(s), s.sectors, more - free, room)
 }
 
-// Judges a write whose chain is listed, in a lent image of so many bytes: 23 and 24, in this order, leave the id list zero; a refusal before them is handed on.
-pub(crate) fn write_listed(
+// The byte that an edit begins at: a resize has none to seek.
+fn seek_of(edit: Edit) -> u64
+    ensures { λ r. ⌜ r ≡ seekOf edit ⌝ }
+{
+    match edit {
+        Edit::Write(offset) => offset,
+        Edit::Resize(_) => 0,
+    }
+}
+
+// Judges an edit whose chain is listed, in a lent image of so many bytes: 23 and 24, in this order, leave the id list zero; a refusal before them is handed on.
+pub(crate) fn edit_listed(
     s: State,
     walked: Walked,
     lent: usize,
     ids: &mut [u32],
-    offset: u64,
+    edit: Edit,
     bytes: usize,
 ) -> Walked
     requires { ⌜ Listing s lent walked (now ids) ⌝ }
-    ensures { λ r. ⌜ ((l : Listing s lent walked (now (ids .entry))) → Judged (writeNo s (l .image) (l .tables) (length (l .before)) (l .start) offset bytes) (l .before) (chainIds s (l .tables) (l .start)) r (now (ids .exit))) ⌝ }
+    ensures { λ r. ⌜ ((l : Listing s lent walked (now (ids .entry))) → Judged (editNo s (l .image) (l .tables) (length (l .before)) (l .start) edit bytes) (l .before) (chainIds s (l .tables) (l .start)) r (now (ids .exit))) ⌝ }
 {
     let Walked::Listed(count) = walked else {
         return walked;
     };
     let len = len_of(s);
-    if ((len * count) as u64) < offset {
+    if ((len * count) as u64) < seek_of(edit) {
         words::fill32(ids, 0);
         return Walked::Refused(23);
     }
-    if no_room(s, lent, sectors_past(len, count, offset as usize, bytes)) {
+    if no_room(s, lent, more_of(len, count, edit, bytes)) {
         words::fill32(ids, 0);
         return Walked::Refused(24);
     }
     walked
 }
 
-// Judges a resize whose chain is listed, likewise: 24 leaves the id list zero.
-pub(crate) fn resize_listed(
-    s: State,
-    walked: Walked,
-    lent: usize,
-    ids: &mut [u32],
-    bytes: u64,
-) -> Walked
-    requires { ⌜ Listing s lent walked (now ids) ⌝ }
-    ensures { λ r. ⌜ ((l : Listing s lent walked (now (ids .entry))) → Judged (resizeNo s (l .image) (l .tables) (length (l .before)) (l .start) bytes) (l .before) (chainIds s (l .tables) (l .start)) r (now (ids .exit))) ⌝ }
+// How many bytes an edit tells of: a write all that it is given, a resize none.
+fn bytes_of(edit: Edit, bytes: usize) -> usize
+    ensures { λ r. ⌜ r ≡ bytesOf edit bytes ⌝ }
 {
-    let Walked::Listed(count) = walked else {
-        return walked;
-    };
-    let len = len_of(s);
-    if no_room(s, lent, sectors_over(len, count, bytes)) {
-        words::fill32(ids, 0);
-        return Walked::Refused(24);
+    match edit {
+        Edit::Write(_) => bytes,
+        Edit::Resize(_) => 0,
     }
-    walked
 }
 
 // Where a chain of count ids starts: END if it has none.
@@ -151,21 +150,23 @@ fn first_of(ids: &[u32], count: usize) -> u32
     ids[0]
 }
 
-// The answer of a change that was made, and the state after it, its header read anew from the image.
+// The answer of an edit that was made, and the state after it, its header read anew from the image.
 pub(crate) fn done_with(
     mut s: State,
     image: &[u8],
     ids: &[u32],
     changed: Changed,
-    bytes: usize,
+    edit: Edit,
+    given: usize,
 ) -> Called
     requires { ⌜ (512 ≤ length (now image)) × ((changed .sectors + 1) * stateLen s ≤ length (now image)) × (changed .ids ≤ length (now ids)) ⌝ }
-    ensures { λ r. ⌜ r ≡ doneWith s (now (image .entry)) (now (ids .entry)) changed bytes ⌝ }
+    ensures { λ r. ⌜ r ≡ doneWith s (now (image .entry)) (now (ids .entry)) changed (bytesOf edit given) ⌝ }
 {
     let len = len_of(s);
     let sectors = changed.sectors;
     let count = changed.ids;
     let start = first_of(ids, count);
+    let bytes = bytes_of(edit, given);
     let header = content(image);
     s.used = (sectors + 1) * len;
     s.sectors = sectors;

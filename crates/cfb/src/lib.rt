@@ -8,17 +8,16 @@ use calls::chain_of;
 use calls::len_of;
 use changes::change_of;
 use changes::done_with;
-use changes::resize_listed;
-use changes::write_listed;
+use changes::edit_listed;
 use header::Header;
 use header::Validation;
 use header::Version;
-use moves::change::set_len;
-use moves::change::write as write_chain;
+use moves::change::Edit;
+use moves::change::change as change_chain;
 use walk::Walked;
 ghost use mathlib.Core.Path.{_≡_};
-ghost use Rattle.cfb.specs.Calls.{ChainOpens, ChainReads};
-ghost use Rattle.cfb.specs.Changes.{ChainWrites, ChainResizes};
+ghost use Rattle.cfb.specs.Calls.{answerNo, ChainOpens, ChainReads};
+ghost use Rattle.cfb.specs.Changes.{ChainEdits, ChainWrites, ChainResizes};
 ghost use Rattle.cfb.specs.Face.{numberOf, noState, Opens};
 
 // The answer of an opening: how many sectors the image has and how many of them are FREE, or the number of the refusal.
@@ -65,6 +64,22 @@ pub enum Answer {
         bytes: usize,
     },
     Refused(u32),
+}
+
+impl Answer {
+    // Document 01's number of the answer: 0 for an acceptance.
+    pub fn number(self) -> u32
+        ensures { λ r. ⌜ r ≡ answerNo self ⌝ }
+    {
+        match self {
+            Answer::Done {
+                ids: _,
+                start: _,
+                bytes: _,
+            } => 0,
+            Answer::Refused(no) => no,
+        }
+    }
 }
 
 // A call's answer, and the state after it.
@@ -200,6 +215,52 @@ impl State {
         }
     }
 
+    // Makes an edit of a chain, as `write` and `resize` say. Everything that can stand against it is judged before the first store.
+    pub fn change(
+        self,
+        image: &mut [u8],
+        fat: &mut [u32],
+        fats: &mut [u32],
+        difats: &mut [u32],
+        frees: &mut [u32],
+        marks: &mut [u8],
+        ids: &mut [u32],
+        start: u32,
+        edit: Edit,
+        buf: &[u8],
+    ) -> Called
+        ensures { λ r. ⌜ ChainEdits self (now (image .entry)) (record { fat = now (fat .entry); fats = now (fats .entry); difats = now (difats .entry); frees = now (frees .entry); marks = now (marks .entry) }) (now (ids .entry)) start edit (now (buf .entry)) r (now (image .exit)) (record { fat = now (fat .exit); fats = now (fats .exit); difats = now (difats .exit); frees = now (frees .exit); marks = now (marks .exit) }) (now (ids .exit)) ⌝ }
+    {
+        let listed = change_of(self, image, fat, fats, difats, frees, marks, ids, start);
+        let walked = edit_listed(self, listed, image.len(), ids, edit, buf.len());
+        let Walked::Listed(count) = walked else {
+            let answer = answer_of(walked, start);
+            return Called {
+                answer,
+                state: self,
+            };
+        };
+        let s = len_of(self);
+        let n = self.sectors;
+        let free = self.free;
+        let changed = change_chain(
+            image,
+            s,
+            n,
+            free,
+            fat,
+            fats,
+            difats,
+            frees,
+            marks,
+            ids,
+            count,
+            edit,
+            buf,
+        );
+        done_with(self, image, ids, changed, edit, buf.len())
+    }
+
     // Writes all of `buf` over a chain's bytes from a byte on; the chain grows to cover them, and what is new past its old end is zero. Refusals 11, 19, 26, 20, 21, 22, 25, 23 and 24, in this order, for an empty `buf` too: each leaves all but `ids` as it was, which are as after `open_chain`.
     pub fn write(
         self,
@@ -216,35 +277,18 @@ impl State {
     ) -> Called
         ensures { λ r. ⌜ ChainWrites self (now (image .entry)) (record { fat = now (fat .entry); fats = now (fats .entry); difats = now (difats .entry); frees = now (frees .entry); marks = now (marks .entry) }) (now (ids .entry)) start offset (now (buf .entry)) r (now (image .exit)) (record { fat = now (fat .exit); fats = now (fats .exit); difats = now (difats .exit); frees = now (frees .exit); marks = now (marks .exit) }) (now (ids .exit)) ⌝ }
     {
-        let listed = change_of(self, image, fat, fats, difats, frees, marks, ids, start);
-        let walked = write_listed(self, listed, image.len(), ids, offset, buf.len());
-        let Walked::Listed(count) = walked else {
-            let answer = answer_of(walked, start);
-            return Called {
-                answer,
-                state: self,
-            };
-        };
-        let s = len_of(self);
-        let n = self.sectors;
-        let free = self.free;
-        let at = offset as usize;
-        let changed = write_chain(
+        self.change(
             image,
-            s,
-            n,
-            free,
             fat,
             fats,
             difats,
             frees,
             marks,
             ids,
-            count,
-            at,
+            start,
+            Edit::Write(offset),
             buf,
-        );
-        done_with(self, image, ids, changed, buf.len())
+        )
     }
 
     // Resizes a chain to the sectors that so many bytes ask for: sectors more are zero; fewer are freed, and bytes past the new length in its last sector are zeroed. Refusals 11, 19, 26, 20, 21, 22, 25 and 24, in this order, for a resize without effect too: each leaves all but `ids` as it was.
@@ -262,33 +306,19 @@ impl State {
     ) -> Called
         ensures { λ r. ⌜ ChainResizes self (now (image .entry)) (record { fat = now (fat .entry); fats = now (fats .entry); difats = now (difats .entry); frees = now (frees .entry); marks = now (marks .entry) }) (now (ids .entry)) start len r (now (image .exit)) (record { fat = now (fat .exit); fats = now (fats .exit); difats = now (difats .exit); frees = now (frees .exit); marks = now (marks .exit) }) (now (ids .exit)) ⌝ }
     {
-        let listed = change_of(self, image, fat, fats, difats, frees, marks, ids, start);
-        let walked = resize_listed(self, listed, image.len(), ids, len);
-        let Walked::Listed(count) = walked else {
-            let answer = answer_of(walked, start);
-            return Called {
-                answer,
-                state: self,
-            };
-        };
-        let s = len_of(self);
-        let n = self.sectors;
-        let free = self.free;
-        let changed = set_len(
+        let none = [0u8; 0];
+        self.change(
             image,
-            s,
-            n,
-            free,
             fat,
             fats,
             difats,
             frees,
             marks,
             ids,
-            count,
-            len,
-        );
-        done_with(self, image, ids, changed, 0)
+            start,
+            Edit::Resize(len),
+            &none,
+        )
     }
 
     // Frees a whole chain: resizes it to 0.

@@ -8,14 +8,16 @@ use lib.ListN.{length, replicate}
 use Rattle.lists.specs.Lists.{choose, Below}
 use Rattle.alloc.specs.Opening.{Tables}
 use Rattle.hand.specs.Hand.{Chain}
-use Rattle.cfb.specs.Changes.{stateFrom, tablesIn, startIn, Changes, ChainResizes, ChainWrites}
+use Rattle.moves.specs.declared.change.Edit.{Edit}
+use Rattle.cfb.specs.Calls.{answerNo}
+use Rattle.cfb.specs.Changes.{stateFrom, tablesIn, startIn, Changes, ChainEdits}
 use Rattle.cfb.specs.declared.State.{State}
 use Rattle.cfb.specs.declared.Called.{Called}
 use Rattle.states.specs.States.{stateWords, holds, heldIn}
-use Rattle.states.specs.Answers.{answerNo, answerWords, given, heldNo}
+use Rattle.states.specs.Answers.{answerWords, given, heldNo}
 use Rattle.states.proofs.Again.{header-fits, state-holds}
 use Rattle.states.proofs.Telling.{number-of, words-of, zeros-given}
-use Rattle.export.specs.Changes.{ChangeGives, ResizeChainGives, WriteChainGives}
+use Rattle.export.specs.Changes.{ChangeGives, EditChainGives}
 
 -- the number of a call on words that hold a state, and on words that hold none
 pub held-number : (words : List ℕ) (k : ℕ) → holds words ≡ true → k ≡ heldNo words k
@@ -61,14 +63,9 @@ module _ (words img : List ℕ) (t : Tables) (ids : List ℕ) (s : State) (r : C
         list = says .list ∙ ap (λ (m : ℕ). choose (eqb m 0) (after .ids) (choose (eqb m 11) ids (replicate (length ids) 0))) same;
       }
 
-  pub resize-given : (start len : ℕ) → ChainResizes s img t ids start len r img' t' ids' → ResizeChainGives words img t ids start len no told words' img' t' ids'
-  resize-given start len says =
-      let mine : ChainResizes (heldIn words) img t ids start len r img' t' ids' = rw e at says in
-      change-given _ _ _ mine
-
-  pub write-given : (start offset : ℕ) (buf : List ℕ) → ChainWrites s img t ids start offset buf r img' t' ids' → WriteChainGives words img t ids start offset buf no told words' img' t' ids'
-  write-given start offset buf says =
-      let mine : ChainWrites (heldIn words) img t ids start offset buf r img' t' ids' = rw e at says in
+  pub edit-given : (start : ℕ) (edit : Edit) (buf : List ℕ) → ChainEdits s img t ids start edit buf r img' t' ids' → EditChainGives words img t ids start edit buf no told words' img' t' ids'
+  edit-given start edit buf says =
+      let mine : ChainEdits (heldIn words) img t ids start edit buf r img' t' ids' = rw e at says in
       change-given _ _ _ mine
 
 -- what a change of bytes leaves in the state's words holds a state

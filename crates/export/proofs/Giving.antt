@@ -8,11 +8,11 @@ use lib.ListN.{length, replicate}
 use Rattle.lists.specs.Lists.{choose}
 use Rattle.chain.specs.Bytes.{readCount, readBytes}
 use Rattle.alloc.specs.Opening.{Tables}
-use Rattle.cfb.specs.Calls.{stateLen, chainNo, chainIds, readNo, idsLeft, ChainOpens, ChainReads}
+use Rattle.cfb.specs.Calls.{stateLen, chainNo, chainIds, readNo, idsLeft, ChainOpens, ChainReads, answerNo}
 use Rattle.cfb.specs.declared.State.{State}
 use Rattle.cfb.specs.declared.Called.{Called}
 use Rattle.states.specs.States.{holds, heldIn}
-use Rattle.states.specs.Answers.{answerNo, answerWords, given}
+use Rattle.states.specs.Answers.{answerWords, given}
 use Rattle.states.proofs.Telling.{number-of, words-of, zeros-given}
 use Rattle.export.specs.Chains.{chainGiven, readGiven, OpenChainGives, ReadChainGives}
 

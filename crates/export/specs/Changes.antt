@@ -7,9 +7,10 @@ use lib.ListN.{length, replicate}
 use Rattle.lists.specs.Lists.{choose}
 use Rattle.alloc.specs.Opening.{Tables}
 use Rattle.hand.specs.Hand.{Chain}
-use Rattle.moves.specs.Change.{resized, written}
+use Rattle.moves.specs.Change.{resized, written, edited, bytesOf}
+use Rattle.moves.specs.declared.change.Edit.{Edit}
 use Rattle.cfb.specs.Calls.{stateLen}
-use Rattle.cfb.specs.Changes.{resizeNo, writeNo, chainFrom, stateFrom, tablesIn, startIn}
+use Rattle.cfb.specs.Changes.{resizeNo, writeNo, editNo, chainFrom, stateFrom, tablesIn, startIn}
 use Rattle.states.specs.States.{stateWords, heldIn}
 use Rattle.states.specs.Answers.{heldNo, given}
 
@@ -31,3 +32,8 @@ ResizeChainGives words img t ids start len r told words' img' t' ids' =
 abbrev pub WriteChainGives : List ℕ → List ℕ → Tables → List ℕ → ℕ → ℕ → List ℕ → ℕ → List ℕ → List ℕ → List ℕ → Tables → List ℕ → Type 0
 WriteChainGives words img t ids start offset buf r told words' img' t' ids' =
     ChangeGives words img t ids (heldNo words (writeNo (heldIn words) img t (length ids) start offset (length buf))) (written (stateLen (heldIn words)) (chainFrom (heldIn words) img t (length ids) start) offset buf) (length buf) r told words' img' t' ids'
+
+-- either, by the edit
+abbrev pub EditChainGives : List ℕ → List ℕ → Tables → List ℕ → ℕ → Edit → List ℕ → ℕ → List ℕ → List ℕ → List ℕ → Tables → List ℕ → Type 0
+EditChainGives words img t ids start edit buf r told words' img' t' ids' =
+    ChangeGives words img t ids (heldNo words (editNo (heldIn words) img t (length ids) start edit (length buf))) (edited (stateLen (heldIn words)) (chainFrom (heldIn words) img t (length ids) start) edit buf) (bytesOf edit (length buf)) r told words' img' t' ids'

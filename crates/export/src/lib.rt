@@ -12,10 +12,10 @@ use items::number_of_kind;
 use layout::header_with;
 use layout::mode_of;
 use layout::words_of;
+use moves::change::Edit;
 use states::holds_state;
 use states::state_in;
 use states::told::give;
-use states::told::number_of_answer;
 use states::told::words_of_answer;
 use states::words_of_state;
 ghost use mathlib.Core.Path.{_≡_};
@@ -27,7 +27,7 @@ ghost use Rattle.items.specs.Items.{kindNumber, itemNumber, itemNumbers, namedO
 ghost use Rattle.layout.specs.Layout.{modeOf, wordsOf, writtenNo, bytesLeft};
 ghost use Rattle.export.specs.Opening.{OpenGives};
 ghost use Rattle.export.specs.Chains.{OpenChainGives, ReadChainGives};
-ghost use Rattle.export.specs.Changes.{WriteChainGives, ResizeChainGives};
+ghost use Rattle.export.specs.Changes.{EditChainGives, WriteChainGives, ResizeChainGives};
 
 // Reads a header: 0, or the number of the refusal; `words` then hold the header, or what stands beside the refusal. Mode 0 is permissive.
 #[no_mangle]
@@ -109,7 +109,7 @@ pub extern "C" fn rasuvelk_open_chain(
     let told = called.answer;
     let numbers = words_of_answer(told);
     *answer = numbers;
-    number_of_answer(told)
+    told.number()
 }
 
 // Reads a chain from byte `offset` on into the front of `buf`: 0, or the number of the refusal, which leaves `buf`; `answer` then holds how many ids, the start and how many bytes were read, or zeros. Words that hold no state are refused by 19 as above.
@@ -152,7 +152,46 @@ pub extern "C" fn rasuvelk_read_chain(
     let told = called.answer;
     let numbers = words_of_answer(told);
     *answer = numbers;
-    number_of_answer(told)
+    told.number()
+}
+
+// Makes an edit of a chain: 0, or the number of the refusal, which leaves all but `ids` and `answer`. Words that hold no state are refused by 19 as above.
+fn change_chain(
+    state: &mut [u64; 121],
+    image: &mut [u8],
+    fat: &mut [u32],
+    fats: &mut [u32],
+    difats: &mut [u32],
+    frees: &mut [u32],
+    marks: &mut [u8],
+    ids: &mut [u32],
+    start: u32,
+    edit: Edit,
+    buf: &[u8],
+    answer: &mut [u64; 3],
+) -> u32
+    ensures { λ r. ⌜ EditChainGives (now (state .entry)) (now (image .entry)) (record { fat = now (fat .entry); fats = now (fats .entry); difats = now (difats .entry); frees = now (frees .entry); marks = now (marks .entry) }) (now (ids .entry)) start edit (now (buf .entry)) r (now (answer .exit)) (now (state .exit)) (now (image .exit)) (record { fat = now (fat .exit); fats = now (fats .exit); difats = now (difats .exit); frees = now (frees .exit); marks = now (marks .exit) }) (now (ids .exit)) ⌝ }
+{
+    let lent = *state;
+    if !holds_state(lent) {
+        words::fill32(ids, 0);
+        *answer = [0u64; 3];
+        return 19;
+    }
+    let held = state_in(lent);
+    let called = held.change(
+        image,
+        fat,
+        fats,
+        difats,
+        frees,
+        marks,
+        ids,
+        start,
+        edit,
+        buf,
+    );
+    give(called, state, answer)
 }
 
 // Writes all of `buf` over a chain's bytes from byte `offset` on: 0, or the number of the refusal, which leaves all but `ids` and `answer`; `state` then holds the words of the state after the write, and `answer` how many ids, the start and how many bytes were written, or zeros. Words that hold no state are refused by 19 as above.
@@ -173,14 +212,8 @@ pub extern "C" fn rasuvelk_write_chain(
 ) -> u32
     ensures { λ r. ⌜ WriteChainGives (now (state .entry)) (now (image .entry)) (record { fat = now (fat .entry); fats = now (fats .entry); difats = now (difats .entry); frees = now (frees .entry); marks = now (marks .entry) }) (now (ids .entry)) start offset (now (buf .entry)) r (now (answer .exit)) (now (state .exit)) (now (image .exit)) (record { fat = now (fat .exit); fats = now (fats .exit); difats = now (difats .exit); frees = now (frees .exit); marks = now (marks .exit) }) (now (ids .exit)) ⌝ }
 {
-    let lent = *state;
-    if !holds_state(lent) {
-        words::fill32(ids, 0);
-        *answer = [0u64; 3];
-        return 19;
-    }
-    let held = state_in(lent);
-    let called = held.write(
+    change_chain(
+        state,
         image,
         fat,
         fats,
@@ -189,10 +222,10 @@ pub extern "C" fn rasuvelk_write_chain(
         marks,
         ids,
         start,
-        offset,
+        Edit::Write(offset),
         buf,
-    );
-    give(called, state, answer)
+        answer,
+    )
 }
 
 // Resizes a chain to the sectors that `length` bytes ask for: 0, or the number of the refusal, likewise; no bytes are told of.
@@ -212,15 +245,21 @@ pub extern "C" fn rasuvelk_resize_chain(
 ) -> u32
     ensures { λ r. ⌜ ResizeChainGives (now (state .entry)) (now (image .entry)) (record { fat = now (fat .entry); fats = now (fats .entry); difats = now (difats .entry); frees = now (frees .entry); marks = now (marks .entry) }) (now (ids .entry)) start length r (now (answer .exit)) (now (state .exit)) (now (image .exit)) (record { fat = now (fat .exit); fats = now (fats .exit); difats = now (difats .exit); frees = now (frees .exit); marks = now (marks .exit) }) (now (ids .exit)) ⌝ }
 {
-    let lent = *state;
-    if !holds_state(lent) {
-        words::fill32(ids, 0);
-        *answer = [0u64; 3];
-        return 19;
-    }
-    let held = state_in(lent);
-    let called = held.resize(image, fat, fats, difats, frees, marks, ids, start, length);
-    give(called, state, answer)
+    let none = [0u8; 0];
+    change_chain(
+        state,
+        image,
+        fat,
+        fats,
+        difats,
+        frees,
+        marks,
+        ids,
+        start,
+        Edit::Resize(length),
+        &none,
+        answer,
+    )
 }
 
 // Frees a whole chain: resizes it to 0.
@@ -239,7 +278,8 @@ pub extern "C" fn rasuvelk_free_chain(
 ) -> u32
     ensures { λ r. ⌜ ResizeChainGives (now (state .entry)) (now (image .entry)) (record { fat = now (fat .entry); fats = now (fats .entry); difats = now (difats .entry); frees = now (frees .entry); marks = now (marks .entry) }) (now (ids .entry)) start 0 r (now (answer .exit)) (now (state .exit)) (now (image .exit)) (record { fat = now (fat .exit); fats = now (fats .exit); difats = now (difats .exit); frees = now (frees .exit); marks = now (marks .exit) }) (now (ids .exit)) ⌝ }
 {
-    rasuvelk_resize_chain(
+    let none = [0u8; 0];
+    change_chain(
         state,
         image,
         fat,
@@ -249,7 +289,8 @@ pub extern "C" fn rasuvelk_free_chain(
         marks,
         ids,
         start,
-        0,
+        Edit::Resize(0),
+        &none,
         answer,
     )
 }

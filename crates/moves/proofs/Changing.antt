@@ -6,7 +6,7 @@ use mathlib.Core.Logic.{⊎-elim}
 use native.Mathlib.Omega.{arith}
 use native.Mathlib.Nat.{mul-comm, add-mul, mul-le-mul-left, mul-le-mul-right}
 use borrow.Author.Tests.{lt-ltb, le-ltb}
-use lib.ListN.{length, getD, take}
+use lib.ListN.{length, getD}
 use lib.Seq.{getD-take, length-take-le}
 use Rattle.lists.proofs.Cases.{below-or}
 use Rattle.sectors.proofs.Laws.{sector-within}
@@ -18,13 +18,13 @@ use Rattle.stores.proofs.Stored.{write-length, write-none}
 use Rattle.stores.proofs.Zeroed.{zero-length}
 use Rattle.room.specs.Needed.{resizeMore, writeMore}
 use Rattle.room.proofs.Needing.{write-within}
-use Rattle.hand.specs.Hand.{Hand, Chain, extend}
-use Rattle.hand.specs.Fits.{FitsChain, FitsMore}
+use Rattle.hand.specs.Hand.{Chain, extend}
+use Rattle.hand.specs.Fits.{FitsChain}
 use Rattle.moves.specs.Change.{shrink, withImage, idsOf, resized, written, Apart, FitsShrink, FitsResize, FitsWrite}
 use Rattle.moves.proofs.Shrinking.{shrink-fits, shrink-count, shrink-ids, shrink-long}
 use Rattle.moves.proofs.Staying.{extend-apart}
 use Rattle.hand.proofs.Linking.{ChainLong}
-use Rattle.moves.proofs.Extending.{chainOf, extend-none, extend-fits, extend-count, extend-long}
+use Rattle.moves.proofs.Extending.{extend-none, extend-fits, extend-count, extend-long}
 
 -- numbers of a chain in hand are small
 module _ (S R : ℕ) (c : Chain) (f : FitsChain S R c) where
@@ -61,7 +61,7 @@ module _ (S R : ℕ) (c : Chain) (f : FitsChain S R c) where
       }
 
   -- where no id stands twice they can be written
-  once-writable : ((i j : ℕ) → i < c .count → j < c .count → getD (c .ids) i 0 ≡ getD (c .ids) j 0 → i ≡ j) → (offset bytes : ℕ) → offset + bytes ≤ S * c .count
+  pub once-writable : ((i j : ℕ) → i < c .count → j < c .count → getD (c .ids) i 0 ≡ getD (c .ids) j 0 → i ≡ j) → (offset bytes : ℕ) → offset + bytes ≤ S * c .count
       → Writable S (length (c .hand .disk .image)) (idsOf c) offset bytes
   once-writable once offset bytes h =
       record {
@@ -157,11 +157,7 @@ module _ (S R len : ℕ) (c : Chain) (f : FitsResize S R len c) where
   pub resize-fits : FitsChain S R c
   resize-fits = f .fits .fits
 
-  -- by the sectors that it asks for more, or by those that it keeps
-  pub resize-grow : (need : ℕ) → need ≡ ceil len S → FitsMore S R (need - c .count) c
-  unfolding resizeMore
-  resize-grow need e = rw e (f .fits)
-
+  -- it can be cut behind the sectors that it keeps
   pub resize-shrink : (need : ℕ) → need ≤ c .count → FitsShrink S R need c
   resize-shrink need h = record { fits = f .fits .fits; within = h }
 
@@ -198,115 +194,14 @@ module _ (S R len : ℕ) (c : Chain) (f : FitsResize S R len c) where
       (λ (g : ceil len S ≤ c .count). rw (resized-fewer S c len g, with-count) (shrink-count S R (ceil len S) c (resize-shrink (ceil len S) g)))
       (below-or (c .count) (ceil len S))
 
-  -- what the code does, by its parts: the chain grows,
-  pub resized-grown : (need : ℕ) → need ≡ ceil len S → c .count < need → (h : Hand) (ids : List ℕ)
-      → record { hand = h; ids = ids; count = c .count + (need - c .count) } ≡ extend S c (need - c .count)
-      → record { hand = h; ids = ids; count = need } ≡ resized S c len
-  unfolding resizeMore
-  resized-grown need e l h ids x =
-      let k : need ≡ c .count + (need - c .count) = omega (arith, l) in
-      ap (λ (n : ℕ). record { hand = h; ids = ids; count = n }) k
-      ∙ x
-      ∙ ap (λ (n : ℕ). extend S c (n - c .count)) e
-      ∙ sym (resized-more S c len (rw e at l))
-
-  -- or it is cut, and can be zeroed from its new length on,
-  module _ (need : ℕ) (e : need ≡ ceil len S) (h : need ≤ c .count) (after : Chain) (x : after ≡ shrink S c need) where
-    cut-fits : FitsChain S R after
-    cut-fits = rw x (shrink-fits S R need c (resize-shrink need h))
-
-    cut-count : after .count ≡ need
-    cut-count = ap (λ (k : Chain). k .count) x ∙ shrink-count S R need c (resize-shrink need h)
-
-    pub cut-listed : need ≡ length (take need (after .ids))
-    cut-listed = sym (length-take-le need (after .ids) (omega (arith, cut-count, chain-room S R after cut-fits)))
-
-    pub cut-zeroable : Writable S (length (after .hand .disk .image)) (take need (after .ids)) len 0
-    unfolding idsOf
-    cut-zeroable =
-        let w : Writable S (length (shrink S c (ceil len S) .hand .disk .image)) (idsOf (shrink S c (ceil len S))) len 0
-        = shrunk-writable S R len c (resize-shrink (ceil len S) (rw e at h)) (f .apart) in
-        let y : after ≡ shrink S c (ceil len S) = x ∙ ap (shrink S c) e in
-        let v : Writable S (length (after .hand .disk .image)) (take (after .count) (after .ids)) len 0 = rw y w in
-        rw cut-count at v
-
-    -- and is
-    pub resized-cut : (img : List ℕ) → img ≡ zeroTail S (after .hand .disk .image) (take need (after .ids)) len → withImage after img ≡ resized S c len
-    unfolding idsOf
-    resized-cut img z =
-        let y : after ≡ shrink S c (ceil len S) = x ∙ ap (shrink S c) e in
-        ap (withImage after) (z ∙ ap (λ (k : ℕ). zeroTail S (after .hand .disk .image) (take k (after .ids)) len) (sym cut-count))
-        ∙ ap (λ (k : Chain). withImage k (zeroTail S (k .hand .disk .image) (idsOf k) len)) y
-        ∙ sym (resized-fewer S c len (rw e at h))
-
--- the same, by the parts of the chain
-pub resized-shrunk : (S R len : ℕ) (c : Chain) (f : FitsResize S R len c) (need : ℕ) → need ≡ ceil len S → need ≤ c .count
-    → (n : ℕ) (image fat fats difats frees : List ℕ) (free : ℕ) (marks ids : List ℕ)
-    → chainOf n image fat fats difats frees free marks ids need ≡ shrink S c need
-    → (img : List ℕ) → img ≡ zeroTail S image (take need ids) len → chainOf n img fat fats difats frees free marks ids need ≡ resized S c len
-unfolding withImage
-resized-shrunk S R len c f need e h n image fat fats difats frees free marks ids x img z =
-    resized-cut S R len c f need e h (chainOf n image fat fats difats frees free marks ids need) x img z
-
 -- a chain that can be written
 module _ (S R offset bytes : ℕ) (c : Chain) (f : FitsWrite S R offset bytes c) where
-  pub write-past : (2 ≤ S) × (S ≤ 65536) × (offset ≤ S * c .count) × (S * c .count < 18446744073709551616)
-  write-past = (omega (arith, f .fits .fits .fits .disk .header), f .fits .fits .fits .disk .short, f .seeks, omega (arith, chain-bytes-small S R c (f .fits .fits)))
-
   -- with the sectors that it asks for it covers what is written
   pub write-covers : offset + bytes ≤ S * (c .count + writeMore S (c .count) offset bytes)
   unfolding writeMore
   write-covers =
       let h : ceil (offset + bytes) S ≤ c .count + (ceil (offset + bytes) S - c .count) = omega arith in
       omega (arith, mul-le-mul-left S h, mul-comm S (ceil (offset + bytes) S), ceil-enough (offset + bytes) S (omega (arith, f .fits .fits .fits .disk .header)) .0)
-
-  module _ (more : ℕ) (m : more ≡ writeMore S (c .count) offset bytes) where
-    pub write-grow : FitsMore S R more c
-    write-grow = rw m (f .fits)
-
-    -- what is grown is a chain in hand that can be written
-    module _ (after : Chain) (x : after ≡ extend S c more) where
-      grown-fits : FitsChain S R after
-      grown-fits = rw x (extend-fits S R more c write-grow)
-
-      grown-count : after .count ≡ c .count + more
-      grown-count = ap (λ (k : Chain). k .count) x ∙ extend-count S c more
-
-      pub grown-small : c .count + more ≤ most
-      grown-small = omega (arith, grown-count, chain-small S R after grown-fits)
-
-      pub grown-place : c .count + more ≤ length (after .ids)
-      grown-place = omega (arith, grown-count, chain-room S R after grown-fits)
-
-      pub grown-listed : c .count + more ≡ length (take (c .count + more) (after .ids))
-      grown-listed = sym (length-take-le (c .count + more) (after .ids) grown-place)
-
-      pub grown-writable : Writable S (length (after .hand .disk .image)) (take (c .count + more) (after .ids)) offset bytes
-      unfolding idsOf
-      grown-writable =
-          let a : Apart after = rw x (extend-apart S R more c write-grow (f .apart)) in
-          let v : Writable S (length (after .hand .disk .image)) (take (after .count) (after .ids)) offset bytes
-          = chain-writable S R after grown-fits a offset bytes (rw (grown-count, m) write-covers) in
-          rw grown-count at v
-
-      -- and is
-      pub written-grown : (buf : List ℕ) → length buf ≡ bytes → (img : List ℕ)
-          → img ≡ writeBytes S (after .hand .disk .image) (take (c .count + more) (after .ids)) offset buf → withImage after img ≡ written S c offset buf
-      unfolding idsOf written
-      written-grown buf b img z =
-          let y : after ≡ extend S c (writeMore S (c .count) offset (length buf)) = rw b (x ∙ ap (extend S c) m) in
-          ap (withImage after) (z ∙ ap (λ (k : ℕ). writeBytes S (after .hand .disk .image) (take k (after .ids)) offset buf) (sym grown-count))
-          ∙ ap (λ (k : Chain). withImage k (writeBytes S (k .hand .disk .image) (idsOf k) offset buf)) y
-
--- the same, by the parts of the chain
-pub written-of : (S R offset : ℕ) (buf : List ℕ) (c : Chain) (f : FitsWrite S R offset (length buf) c) (more : ℕ) → more ≡ writeMore S (c .count) offset (length buf)
-    → (n : ℕ) (image fat fats difats frees : List ℕ) (free : ℕ) (marks ids : List ℕ)
-    → chainOf n image fat fats difats frees free marks ids (c .count + more) ≡ extend S c more
-    → (img : List ℕ) → img ≡ writeBytes S image (take (c .count + more) ids) offset buf
-    → chainOf n img fat fats difats frees free marks ids (c .count + more) ≡ written S c offset buf
-unfolding withImage
-written-of S R offset buf c f more m n image fat fats difats frees free marks ids x img z =
-    written-grown S R offset (length buf) c f more m (chainOf n image fat fats difats frees free marks ids (c .count + more)) x buf refl img z
 
 -- what is left is a chain in hand, of which everything is as long, and of as many sectors as there were and are asked for
 module _ (S R offset : ℕ) (buf : List ℕ) (c : Chain) (f : FitsWrite S R offset (length buf) c) where

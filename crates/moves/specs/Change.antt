@@ -1,5 +1,5 @@
 -- What a change makes of a chain in hand (document 01, Write, Resize and Free), over the sector's length S. Assumes nothing.
-use Prim.Native.Nat.{ℕ, _-_, _*_, _≤_, _<_}
+use Prim.Native.Nat.{ℕ, _+_, _-_, _*_, _≤_, _<_}
 use mathlib.Core.Path.{_≡_}
 use mathlib.Core.Logic.{_≢_}
 use mathlib.Core.List.{List}
@@ -13,6 +13,8 @@ use Rattle.stores.specs.Stores.{writeBytes, zeroTail}
 use Rattle.room.specs.Needed.{resizeMore, writeMore}
 use Rattle.hand.specs.Fits.{FitsChain, FitsMore}
 use Rattle.hand.specs.Hand.{Hand, Chain, linked, freeRun, extend}
+use Rattle.moves.specs.declared.change.Edit.{Edit}
+use Rattle.moves.specs.declared.change.Edit.the-variants.{Write, Resize}
 
 -- the last of the first m sectors ends the chain
 abbrev pub cut : ℕ → Hand → List ℕ → ℕ → Hand
@@ -59,6 +61,44 @@ written S c offset buf =
     let grown = extend S c (writeMore S (c .count) offset (length buf)) in
     withImage grown (writeBytes S (grown .hand .disk .image) (idsOf grown) offset buf)
 
+-- document 01: what an edit makes of a chain; a resize has no use for the buffer
+abbrev pub edited : ℕ → Chain → Edit → List ℕ → Chain
+edited S c (Write offset) buf = written S c offset buf
+edited S c (Resize len) buf = resized S c len
+
+-- document 01, 23: the byte that an edit begins at, which must not lie past the chain's end: a write's offset
+unfoldable pub seekOf : Edit → ℕ
+seekOf (Write offset) = offset
+seekOf (Resize len) = 0
+
+-- document 01, 24: how many sectors an edit of so many bytes asks for more than there are
+unfoldable pub editMore : ℕ → ℕ → Edit → ℕ → ℕ
+unfolding resizeMore writeMore
+editMore S count (Write offset) bytes = writeMore S count offset bytes
+editMore S count (Resize len) bytes = resizeMore S count len
+
+-- how many sectors the chain has then: a write leaves it no shorter
+unfoldable pub editNeed : ℕ → ℕ → Edit → ℕ → ℕ
+unfolding ceil writeMore
+editNeed S count (Write offset) bytes = count + writeMore S count offset bytes
+editNeed S count (Resize len) bytes = ceil len S
+
+-- from where on an edit stores in the chain's bytes
+unfoldable pub placeOf : Edit → ℕ
+placeOf (Write offset) = offset
+placeOf (Resize len) = len
+
+-- how many bytes of the buffer it writes: a write all, a resize none
+abbrev pub bytesOf : Edit → ℕ → ℕ
+bytesOf (Write offset) bytes = bytes
+bytesOf (Resize len) bytes = 0
+
+-- what it stores there, in a chain that had so many sectors and has count
+unfoldable pub stored : ℕ → ℕ → ℕ → List ℕ → List ℕ → Edit → List ℕ → List ℕ
+unfolding writeBytes zeroTail
+stored S had count img ids (Write offset) buf = writeBytes S img ids offset buf
+stored S had count img ids (Resize len) buf = choose (ltb had count) img (zeroTail S img ids len)
+
 -- no sector is listed twice, in the chain, in the free list, or in both
 pub record Apart (c : Chain) : Type 0 where
   pub ids-once : (i j : ℕ) → i < c .count → j < c .count → getD (c .ids) i 0 ≡ getD (c .ids) j 0 → i ≡ j
@@ -80,3 +120,9 @@ pub record FitsWrite (S R offset bytes : ℕ) (c : Chain) : Type 0 where
   pub fits : FitsMore S R (writeMore S (c .count) offset bytes) c
   pub apart : Apart c
   pub seeks : offset ≤ S * c .count
+
+-- a chain that can be edited, likewise
+pub record FitsEdit (S R : ℕ) (edit : Edit) (bytes : ℕ) (c : Chain) : Type 0 where
+  pub fits : FitsMore S R (editMore S (c .count) edit bytes) c
+  pub apart : Apart c
+  pub seeks : seekOf edit ≤ S * c .count

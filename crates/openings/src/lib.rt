@@ -91,20 +91,6 @@ fn same_counts(number: u32, state: State, case: &[u8]) -> bool
     state.sectors == case[7] as usize
 }
 
-// The number of an answer: 0 where the chain opens.
-fn number_told(answer: Answer) -> u32
-    ensures { λ r. ⌜ r ≡ getD (toldBy answer) 0 0 ⌝ }
-{
-    match answer {
-        Answer::Done {
-            ids: _,
-            start: _,
-            bytes: _,
-        } => 0,
-        Answer::Refused(no) => no,
-    }
-}
-
 // How many ids an answer tells of: none beside a refusal.
 fn ids_told(answer: Answer) -> usize
     ensures { λ r. ⌜ r ≡ getD (toldBy answer) 1 0 ⌝ }
@@ -124,7 +110,7 @@ fn same_told(answer: Answer, ids: &[u32], case: &[u8]) -> bool
     requires { ⌜ length (now case) ≡ 1024 ⌝ }
     ensures { λ r. ⌜ (r ≡ true → ToldAs (now (case .entry)) (toldBy answer) (now (ids .entry))) ⌝ }
 {
-    if number_told(answer) != number_in(case) {
+    if answer.number() != number_in(case) {
         return false;
     }
     if ids_told(answer) != case[6] as usize {

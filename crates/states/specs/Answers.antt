@@ -7,12 +7,7 @@ use Rattle.cfb.specs.declared.Answer.{Answer}
 use Rattle.cfb.specs.declared.Answer.the-variants.{Done, Refused}
 use Rattle.states.specs.States.{holds}
 
--- the number of an answer: 0 for an acceptance
-abbrev pub answerNo : Answer → ℕ
-answerNo (Done ids start bytes) = 0
-answerNo (Refused k) = k
-
--- the three words beside it: how many ids, the start, how many bytes; zeros beside a refusal
+-- the three words beside the number of an answer: how many ids, the start, how many bytes; zeros beside a refusal
 abbrev pub answerWords : Answer → List ℕ
 answerWords (Done ids start bytes) = ids ∷ start ∷ bytes ∷ []
 answerWords (Refused k) = 0 ∷ 0 ∷ 0 ∷ []

@@ -3,24 +3,11 @@ use crate::words_of_state;
 use cfb::Answer;
 use cfb::Called;
 ghost use mathlib.Core.Path.{_≡_};
-ghost use Rattle.states.specs.Answers.{answerNo, answerWords};
+ghost use Rattle.cfb.specs.Calls.{answerNo};
+ghost use Rattle.states.specs.Answers.{answerWords};
 ghost use Rattle.states.specs.States.{stateWords};
 
-// The number of an answer: 0 for an acceptance.
-pub fn number_of_answer(answer: Answer) -> u32
-    ensures { λ r. ⌜ r ≡ answerNo answer ⌝ }
-{
-    match answer {
-        Answer::Done {
-            ids: _,
-            start: _,
-            bytes: _,
-        } => 0,
-        Answer::Refused(no) => no,
-    }
-}
-
-// The three words beside it: how many ids, the start, how many bytes; zeros beside a refusal.
+// The three words beside the number of an answer: how many ids, the start, how many bytes; zeros beside a refusal.
 pub fn words_of_answer(answer: Answer) -> [u64; 3]
     ensures { λ r. ⌜ r ≡ answerWords answer ⌝ }
 {
@@ -42,5 +29,5 @@ pub fn give(called: Called, state: &mut [u64; 121], answer: &mut [u64; 3]) -> u3
     let told = called.answer;
     let numbers = words_of_answer(told);
     *answer = numbers;
-    number_of_answer(told)
+    told.number()
 }

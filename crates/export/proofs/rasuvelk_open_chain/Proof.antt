@@ -7,10 +7,10 @@ use Rattle.export.proofs.rasuvelk_open_chain.Statement.{statement}
 use Rattle.export.proofs.rasuvelk_open_chain.Tie as tie
 
 -- where the call is done, and where the state is taken from the words before it
-abbrev called : tie.After-number-of-answer → tie.After-open-chain
+abbrev called : tie.After-number → tie.After-open-chain
 called c = c .before .before .before .before
 
-abbrev taken : tie.After-number-of-answer → tie.After-state-in
+abbrev taken : tie.After-number → tie.After-state-in
 taken c = called c .before .before
 
 holds-state-requires : tie.Need-holds-state-requires
@@ -37,8 +37,8 @@ open-chain-requires c κs = search needs
 words-of-answer-requires : tie.Need-words-of-answer-requires
 words-of-answer-requires c κs = search needs
 
-number-of-answer-requires : tie.Need-number-of-answer-requires
-number-of-answer-requires c κs = search needs
+number-requires : tie.Need-number-requires
+number-requires c κs = search needs
 
 same-length-2 : tie.Need-same-length-2
 same-length-2 c = search needs
@@ -46,7 +46,7 @@ same-length-2 c = search needs
 returns-2 : tie.Need-returns-2
 returns-2 c =
     let judged = taken c .before in
-    open-given _ _ _ _ _ _ _ _ _ _ _ (judged .before .holds-state .ensures) (not-false _ (judged .if1 .left)) (taken c .state-in .ensures .0) _ _ (c .number-of-answer .ensures) (c .before .words-of-answer .ensures) (called c .open-chain .ensures)
+    open-given _ _ _ _ _ _ _ _ _ _ _ (judged .before .holds-state .ensures) (not-false _ (judged .if1 .left)) (taken c .state-in .ensures .0) _ _ (c .number .ensures) (c .before .words-of-answer .ensures) (called c .open-chain .ensures)
 
 pub rasuvelk-open-chain-spec : {M : Type 1} → statement M
 rasuvelk-open-chain-spec =
@@ -59,6 +59,6 @@ rasuvelk-open-chain-spec =
     state-in-requires
     open-chain-requires
     words-of-answer-requires
-    number-of-answer-requires
+    number-requires
     same-length-2
     returns-2)

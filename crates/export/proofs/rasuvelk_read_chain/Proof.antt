@@ -7,10 +7,10 @@ use Rattle.export.proofs.rasuvelk_read_chain.Statement.{statement}
 use Rattle.export.proofs.rasuvelk_read_chain.Tie as tie
 
 -- where the call is done, and where the state is taken from the words before it
-abbrev called : tie.After-number-of-answer → tie.After-read
+abbrev called : tie.After-number → tie.After-read
 called c = c .before .before .before .before .before .before
 
-abbrev taken : tie.After-number-of-answer → tie.After-state-in
+abbrev taken : tie.After-number → tie.After-state-in
 taken c = called c .before .before .before
 
 holds-state-requires : tie.Need-holds-state-requires
@@ -37,8 +37,8 @@ read-requires c κs = search needs
 words-of-answer-requires : tie.Need-words-of-answer-requires
 words-of-answer-requires c κs = search needs
 
-number-of-answer-requires : tie.Need-number-of-answer-requires
-number-of-answer-requires c κs = search needs
+number-requires : tie.Need-number-requires
+number-requires c κs = search needs
 
 same-length-2 : tie.Need-same-length-2
 same-length-2 c = search needs
@@ -49,7 +49,7 @@ same-length-3 c = search needs
 returns-2 : tie.Need-returns-2
 returns-2 c =
     let judged = taken c .before in
-    read-given _ _ _ _ _ _ _ _ _ _ _ (judged .before .holds-state .ensures) (not-false _ (judged .if1 .left)) (taken c .state-in .ensures .0) _ _ (c .number-of-answer .ensures) (c .before .words-of-answer .ensures) _ _ _ (called c .read .ensures)
+    read-given _ _ _ _ _ _ _ _ _ _ _ (judged .before .holds-state .ensures) (not-false _ (judged .if1 .left)) (taken c .state-in .ensures .0) _ _ (c .number .ensures) (c .before .words-of-answer .ensures) _ _ _ (called c .read .ensures)
 
 pub rasuvelk-read-chain-spec : {M : Type 1} → statement M
 rasuvelk-read-chain-spec =
@@ -62,7 +62,7 @@ rasuvelk-read-chain-spec =
     state-in-requires
     read-requires
     words-of-answer-requires
-    number-of-answer-requires
+    number-requires
     same-length-2
     same-length-3
     returns-2)

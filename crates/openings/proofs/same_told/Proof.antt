@@ -7,8 +7,8 @@ use borrow.Author.Needs.{needs}
 use Rattle.openings.proofs.same_told.Statement.{statement}
 use Rattle.openings.proofs.same_told.Tie as tie
 
-number-told-requires : tie.Need-number-told-requires
-number-told-requires c κs = search needs
+number-requires : tie.Need-number-requires
+number-requires c κs = search needs
 
 number-in-requires : tie.Need-number-in-requires
 number-in-requires c κs = search needs
@@ -48,7 +48,7 @@ returns-3 c =
     let tested = told .before in
     λ e.
     record {
-      number = sym (tested .before .before .number-told .ensures) ∙ tested .if1 .left ∙ tested .before .number-in .ensures;
+      number = sym (tested .before .before .number .ensures) ∙ tested .if1 .left ∙ tested .before .number-in .ensures;
       count = sym (told .ids-told .ensures) ∙ counted .if2 .left;
       list = c .same-table .ensures e;
     }
@@ -57,7 +57,7 @@ pub same-told-spec : {M : Type 1} → statement M
 same-told-spec =
     tie.close
     (tie.spec
-    number-told-requires
+    number-requires
     number-in-requires
     returns
     ids-told-requires

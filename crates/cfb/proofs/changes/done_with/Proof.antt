@@ -15,20 +15,23 @@ len-of-requires c κs = search needs
 first-of-requires : tie.Need-first-of-requires
 first-of-requires c κs = search needs
 
+bytes-of-requires : tie.Need-bytes-of-requires
+bytes-of-requires c κs = search needs
+
 content-requires : tie.Need-content-requires
 content-requires c κs = search needs
 
 add-s : tie.Need-add-s
 add-s c =
-    let g = c .before .before .before .before .before in
+    let g = c .before .before .before .before .before .before in
     omega (arith, g .pre .1, scaled (g .args .changed .sectors + 1) (stateLen (g .args .s)) (omega (arith, length-least (g .args .s .header .version))))
 
 mul-s : tie.Need-mul-s
-mul-s c = let g = c .before .before .before .before .before in omega (arith, used-own (g .args .changed .sectors) _ (c .before .before .len-of .ensures) (g .pre .1))
+mul-s c = let g = c .before .before .before .before .before .before in omega (arith, used-own (g .args .changed .sectors) _ (c .before .before .before .len-of .ensures) (g .pre .1))
 
 returns : tie.Need-returns
-returns c = let g = c .before .before .before .before .before in done-as (g .args .s) _ _ (g .args .changed) _ _ _ _ (c .before .first-of .ensures) (c .before .before .len-of .ensures) (c .content .ensures)
+returns c = let g = c .before .before .before .before .before .before in done-as (g .args .s) _ _ (g .args .changed) _ _ _ _ _ (c .before .before .first-of .ensures) (c .before .bytes-of .ensures) (c .before .before .before .len-of .ensures) (c .content .ensures)
 
 pub done-with-spec : {M : Type 1} → statement M
 done-with-spec =
-    tie.close (tie.spec len-of-requires first-of-requires content-requires add-s mul-s returns)
+    tie.close (tie.spec len-of-requires first-of-requires bytes-of-requires content-requires add-s mul-s returns)

@@ -4,25 +4,28 @@ use lib.ListN.{length}
 use Rattle.alloc.specs.Opening.{Tables}
 use Rattle.walk.specs.declared.Walked.the-variants.{Listed}
 use Rattle.fat.specs.Lists.{roomOf}
-use Rattle.moves.specs.Change.{FitsResize}
-use Rattle.moves.proofs.Changing.{resized-fits}
+use Rattle.moves.specs.Change.{FitsEdit}
+use Rattle.moves.proofs.Editing.{edited-fits}
 use Rattle.cfb.specs.Calls.{stateLen, chainIds}
-use Rattle.cfb.specs.Changes.{resizeNo, chainFrom, Listing, Judged}
+use Rattle.cfb.specs.Changes.{editNo, chainFrom, Listing, Judged}
 use Rattle.cfb.specs.declared.State.{State}
-use Rattle.cfb.proofs.Changing.{changes-refused, changes-made, judged-zero, judged-chain, resize-ready, resize-own, resized-own, made-lies}
+use Rattle.cfb.proofs.Changing.{changes-refused, changes-made, judged-zero, judged-chain, edit-ready, edit-own, edited-own, made-lies}
 use borrow.Author.Needs.{needs}
-use Rattle.cfb.proofs.State.resize.Statement.{statement}
-use Rattle.cfb.proofs.State.resize.Tie as tie
+use Rattle.cfb.proofs.State.change.Statement.{statement}
+use Rattle.cfb.proofs.State.change.Tie as tie
 
 -- what was lent, where the chain is listed and where it is judged
 abbrev begun : tie.After-change-of → tie.Start
-begun c = c .before .before .before .before .before .before .before .before .before .before .before .before .before .before .before
+begun c = c .before .before .before .before .before .before .before .before .before .before .before .before .before .before .before .before
 
-abbrev listed : tie.After-resize-listed → tie.After-change-of
+abbrev listed : tie.After-edit-listed → tie.After-change-of
 listed c = c .before .before .before .before
 
-abbrev judging : tie.After-len-of → tie.After-resize-listed
+abbrev judging : tie.After-len-of → tie.After-edit-listed
 judging c = c .before .before .before .before .before .before
+
+abbrev lent : tie.After-len-of → tie.Start
+lent c = begun (listed (judging c))
 
 abbrev state : tie.After-change-of → State
 state c = begun c .args .self
@@ -41,23 +44,23 @@ listing c = record {
   listed = c .change-of .ensures;
 }
 
-judged : (c : tie.After-resize-listed) → Judged (resizeNo (state (listed c)) (begun (listed c) .args .image .now) (tables (listed c)) (length (begun (listed c) .args .ids .now)) (begun (listed c) .args .start) (begun (listed c) .args .len)) (begun (listed c) .args .ids .now)
-    (chainIds (state (listed c)) (tables (listed c)) (begun (listed c) .args .start)) (c .resize-listed .result) (c .resize-listed .last .1 .1 .1 .0)
-judged c = c .resize-listed .ensures (listing (listed c))
+judged : (c : tie.After-edit-listed) → Judged (editNo (state (listed c)) (begun (listed c) .args .image .now) (tables (listed c)) (length (begun (listed c) .args .ids .now)) (begun (listed c) .args .start) (begun (listed c) .args .edit) (length (begun (listed c) .args .buf .now))) (begun (listed c) .args .ids .now)
+    (chainIds (state (listed c)) (tables (listed c)) (begun (listed c) .args .start)) (c .edit-listed .result) (c .edit-listed .last .1 .1 .1 .0)
+judged c = c .edit-listed .ensures (listing (listed c))
 
 -- the count is that of the listing, and the change can be made
-walked-is : (c : tie.After-len-of) → judging c .resize-listed .result ≡ Listed (c .before .before .walked .given .0 .0)
+walked-is : (c : tie.After-len-of) → judging c .edit-listed .result ≡ Listed (c .before .before .walked .given .0 .0)
 walked-is c = c .before .before .walked .given .1
 
-ready : (c : tie.After-len-of) → FitsResize (stateLen (state (listed (judging c)))) (roomOf (stateLen (state (listed (judging c)))) (length (begun (listed (judging c)) .args .image .now))) (begun (listed (judging c)) .args .len)
-    (chainFrom (state (listed (judging c))) (begun (listed (judging c)) .args .image .now) (tables (listed (judging c))) (length (begun (listed (judging c)) .args .ids .now)) (begun (listed (judging c)) .args .start))
-ready c = let a = listed (judging c) in resize-ready (state a) _ (tables a) _ _ _ (judged-zero _ _ _ _ _ (judged (judging c)) _ (walked-is c))
+ready : (c : tie.After-len-of) → FitsEdit (stateLen (state (listed (judging c)))) (roomOf (stateLen (state (listed (judging c)))) (length (lent c .args .image .now))) (lent c .args .edit) (length (lent c .args .buf .now))
+    (chainFrom (state (listed (judging c))) (lent c .args .image .now) (tables (listed (judging c))) (length (lent c .args .ids .now)) (lent c .args .start))
+ready c = let a = listed (judging c) in edit-ready (state a) _ (tables a) _ _ _ _ (judged-zero _ _ _ _ _ (judged (judging c)) _ (walked-is c))
 
 change-of-requires : tie.Need-change-of-requires
 change-of-requires c κs = search needs
 
-resize-listed-requires : tie.Need-resize-listed-requires
-resize-listed-requires c κs = listing (c .before .before .before)
+edit-listed-requires : tie.Need-edit-listed-requires
+edit-listed-requires c κs = listing (c .before .before .before)
 
 enum-known-walked : tie.Need-enum-known-walked
 enum-known-walked c = search needs
@@ -95,16 +98,16 @@ returns c = let w = c .before .before .before .before .before in changes-refused
 len-of-requires : tie.Need-len-of-requires
 len-of-requires c κs = search needs
 
-set-len-requires : tie.Need-set-len-requires
-set-len-requires c κs =
+change-requires : tie.Need-change-requires
+change-requires c κs =
     let k = c .before .before .before .before .before .before .before in
-    resize-own (begun (listed (judging k)) .args .image .now) _ (k .len-of .ensures) (judged-chain (state (listed (judging k))) _ (tables (listed (judging k))) _ (begun (listed (judging k)) .args .start) _ _ _ (judged (judging k)) _ (walked-is k)) (ready k)
+    edit-own (lent k .args .image .now) _ _ (k .len-of .ensures) (judged-chain (state (listed (judging k))) _ (tables (listed (judging k))) _ (lent k .args .start) _ _ _ (judged (judging k)) _ (walked-is k)) (ready k)
 
 done-with-requires : tie.Need-done-with-requires
 done-with-requires c κs =
     let m = c .before .before .before .before .before .before .before .before .before .before .before .before .before .before .before .before in
     let k = m .before .before .before .before .before .before .before .before in
-    made-lies _ _ _ _ (m .set-len .ensures ∙ resized-own _ (k .len-of .ensures) (judged-chain (state (listed (judging k))) _ (tables (listed (judging k))) _ (begun (listed (judging k)) .args .start) _ _ _ (judged (judging k)) _ (walked-is k))) (resized-fits _ _ _ _ (ready k))
+    made-lies _ _ _ _ (m .change .ensures ∙ edited-own (lent k .args .edit) (lent k .args .buf .now) (k .len-of .ensures) (judged-chain (state (listed (judging k))) _ (tables (listed (judging k))) _ (lent k .args .start) _ _ _ (judged (judging k)) _ (walked-is k))) (edited-fits _ _ _ (lent k .args .buf .now) _ (ready k))
 
 same-length-8 : tie.Need-same-length-8
 same-length-8 c = search needs
@@ -128,20 +131,20 @@ same-length-14 : tie.Need-same-length-14
 same-length-14 c =
     let m = c .before .before .before .before .before .before .before .before .before .before .before .before .before .before .before .before .before in
     let w = judging (m .before .before .before .before .before .before .before .before) in
-    m .set-len .kept .1 .1 .1 .1 .1 .1 .1 .1 .1 .0 ∙ w .resize-listed .kept .1 .1 .1 .0 ∙ listing (listed w) .kept
+    m .change .kept .1 .1 .1 .1 .1 .1 .1 .1 .1 .0 ∙ w .edit-listed .kept .1 .1 .1 .0 ∙ listing (listed w) .kept
 
 returns-2 : tie.Need-returns-2
 returns-2 c =
     let m = c .before .before .before .before .before .before .before .before .before .before .before .before .before .before .before .before .before in
     let k = m .before .before .before .before .before .before .before .before in
-    changes-made _ _ (tables (listed (judging k))) _ _ _ 0 _ _ _ _ (m .set-len .result) (judged-zero _ _ _ _ _ (judged (judging k)) _ (walked-is k)) (m .set-len .ensures ∙ resized-own _ (k .len-of .ensures) (judged-chain (state (listed (judging k))) _ (tables (listed (judging k))) _ (begun (listed (judging k)) .args .start) _ _ _ (judged (judging k)) _ (walked-is k))) (c .done-with .ensures)
+    changes-made _ _ (tables (listed (judging k))) _ _ _ _ _ _ _ _ (m .change .result) (judged-zero _ _ _ _ _ (judged (judging k)) _ (walked-is k)) (m .change .ensures ∙ edited-own (lent k .args .edit) (lent k .args .buf .now) (k .len-of .ensures) (judged-chain (state (listed (judging k))) _ (tables (listed (judging k))) _ (lent k .args .start) _ _ _ (judged (judging k)) _ (walked-is k))) (c .done-with .ensures)
 
-pub resize-spec : {M : Type 1} → statement M
-resize-spec =
+pub change-spec : {M : Type 1} → statement M
+change-spec =
     tie.close
     (tie.spec
     change-of-requires
-    resize-listed-requires
+    edit-listed-requires
     enum-known-walked
     enum-told
     answer-of-requires
@@ -154,7 +157,7 @@ resize-spec =
     same-length-7
     returns
     len-of-requires
-    set-len-requires
+    change-requires
     done-with-requires
     same-length-8
     same-length-9

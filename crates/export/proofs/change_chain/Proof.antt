@@ -1,17 +1,21 @@
 -- Words that hold no state are refused by 19; else the call on the state that they hold decides, and its answer and state are given as words.
 use mathlib.Core.Path.{sym, _∙_}
 use borrow.Author.Tests.{not-true, not-false}
-use Rattle.export.proofs.Changing.{change-refused, write-given}
+use Rattle.export.proofs.Changing.{change-refused, edit-given}
 use borrow.Author.Needs.{needs}
-use Rattle.export.proofs.rasuvelk_write_chain.Statement.{statement}
-use Rattle.export.proofs.rasuvelk_write_chain.Tie as tie
+use Rattle.export.proofs.change_chain.Statement.{statement}
+use Rattle.export.proofs.change_chain.Tie as tie
 
 -- where the call is done, and where the state is taken from the words before it
-abbrev called : tie.After-give → tie.After-write
+abbrev called : tie.After-give → tie.After-change
 called c = c .before .before .before .before .before .before .before .before .before .before .before .before .before .before .before .before .before
 
 abbrev taken : tie.After-give → tie.After-state-in
 taken c = called c .before .before .before .before .before .before .before .before
+
+-- what was handed in
+abbrev lent : tie.After-give → tie.Start
+lent c = taken c .before .before .before .before .before .before .before .before .before .before .before .before
 
 holds-state-requires : tie.Need-holds-state-requires
 holds-state-requires c κs = search needs
@@ -31,8 +35,8 @@ returns c =
 state-in-requires : tie.Need-state-in-requires
 state-in-requires c κs = sym (c .before .holds-state .ensures) ∙ not-false _ (c .if1 .left)
 
-write-requires : tie.Need-write-requires
-write-requires c κs = search needs
+change-requires : tie.Need-change-requires
+change-requires c κs = search needs
 
 give-requires : tie.Need-give-requires
 give-requires c κs = search needs
@@ -63,10 +67,10 @@ returns-2 c =
     let judged = taken c .before in
     let held = taken c .state-in .ensures in
     let told = c .give .ensures in
-    write-given _ _ _ _ _ _ _ _ _ _ (judged .before .holds-state .ensures) (not-false _ (judged .if1 .left)) (held .0) (held .1) _ _ _ (told .0) (told .1 .0) (told .1 .1) _ _ _ (called c .write .ensures)
+    edit-given _ _ _ _ _ _ _ _ _ _ (judged .before .holds-state .ensures) (not-false _ (judged .if1 .left)) (held .0) (held .1) _ _ _ (told .0) (told .1 .0) (told .1 .1) _ (lent c .args .edit) (lent c .args .buf .now) (called c .change .ensures)
 
-pub rasuvelk-write-chain-spec : {M : Type 1} → statement M
-rasuvelk-write-chain-spec =
+pub change-chain-spec : {M : Type 1} → statement M
+change-chain-spec =
     tie.close
     (tie.spec
     holds-state-requires
@@ -74,7 +78,7 @@ rasuvelk-write-chain-spec =
     same-length
     returns
     state-in-requires
-    write-requires
+    change-requires
     give-requires
     same-length-2
     same-length-3
