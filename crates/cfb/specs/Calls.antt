@@ -4,7 +4,7 @@ use mathlib.Core.Path.{_≡_}
 use mathlib.Core.Bool.{not}
 use mathlib.Core.List.{List, [], _∷_, _++_}
 use lib.Dec.{eqb, ltb}
-use lib.ListN.{length, take, replicate}
+use lib.ListN.{getD, length, take, replicate}
 use Rattle.lists.specs.Lists.{choose}
 use Rattle.lists.specs.Rows.{Row, row, refusal}
 use Rattle.header.specs.Versions.{lengthOf}
