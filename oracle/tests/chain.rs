@@ -1,4 +1,4 @@
-//! alloc.rs and chain.rs over the stand-ins, on the first cases of the specification.
+//! alloc.rs and chain.rs over the stand-ins, on cases 1, 2, 5 to 7, 9, 10 and 12 of the specification.
 #![cfg(oracle)]
 
 use oracle::image::{self, Store};

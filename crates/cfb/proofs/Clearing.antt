@@ -1,4 +1,4 @@
--- A list with zeros from a place on. Assumes nothing.
+-- The id list is zero past what a walk listed. Assumes nothing.
 use Prim.Native.Nat.{ℕ, _-_}
 use mathlib.Core.Path.{_≡_, _∙_}
 use mathlib.Core.List.{List}

@@ -1,3 +1,3 @@
-// The moves that every change of a chain is made of (document 01, "Calls on a chain"): sectors taken, pointed at and freed, chains extended and cut.
+// What a change makes of a chain (document 01, "Calls on a chain"): it is extended, cut, resized and written, by the moves of crate hand.
 pub mod change;
 pub mod extend;

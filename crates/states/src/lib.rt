@@ -1,4 +1,4 @@
-// A state as 121 words: its mode, used length, counts, and the 117 words of its header.
+// A state as 121 words: its mode, used length, counts, and the 117 words of its header; and an answer as three (`told`).
 pub mod told;
 
 use cfb::State;

@@ -1,4 +1,4 @@
--- `headers::header_with` meets its contract: each number is read where the definition reads it, and `list_from` gives the list. Assumes nothing.
+-- `layout::header_with` meets its contract: each number is read where the definition reads it, and `list_from` gives the list. Assumes nothing.
 use Rattle.layout.proofs.Placing.{list-held}
 use borrow.Author.Needs.{needs}
 use Rattle.layout.proofs.header_with.Statement.{statement}

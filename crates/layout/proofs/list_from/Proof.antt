@@ -1,4 +1,4 @@
--- `headers::list_from` meets its contract: so far the first i of the words behind the eight numbers are taken. Assumes nothing.
+-- `layout::list_from` meets its contract: so far the first i of the words behind the eight numbers are taken. Assumes nothing.
 use Prim.Native.Nat.{_≤_, _-_}
 use mathlib.Core.Path.{_≡_, sym}
 use native.Mathlib.Omega.{arith}

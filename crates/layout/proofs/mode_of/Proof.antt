@@ -1,4 +1,4 @@
--- `headers::mode_of` meets its contract: its test is the definition's. Assumes nothing.
+-- `layout::mode_of` meets its contract: its test is the definition's. Assumes nothing.
 use Rattle.layout.proofs.Placing.{mode-zero, mode-other}
 use Rattle.layout.proofs.mode_of.Statement.{statement}
 use Rattle.layout.proofs.mode_of.Tie as tie

@@ -1,4 +1,4 @@
--- `headers::words_of` meets its contract: the eight numbers are stored over the zeros before the list. Assumes nothing.
+-- `layout::words_of` meets its contract: the eight numbers are stored over the zeros before the list. Assumes nothing.
 use Rattle.layout.proofs.Placing.{words-stored}
 use borrow.Author.Needs.{needs}
 use Rattle.layout.proofs.words_of.Statement.{statement}

@@ -1,4 +1,4 @@
--- `headers::words_with` meets its contract: so far the entries below i stand behind eight zeros. Assumes nothing.
+-- `layout::words_with` meets its contract: so far the entries below i stand behind eight zeros. Assumes nothing.
 use Prim.Native.Nat.{_≤_, _-_}
 use mathlib.Core.Path.{_≡_, sym}
 use native.Mathlib.Omega.{arith}

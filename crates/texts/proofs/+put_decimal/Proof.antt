@@ -1,4 +1,4 @@
--- `consts::put_decimal` meets its contract: a call that writes n / 10 and one digit more are the digits of n. The measure is n. Assumes nothing.
+-- `texts::put_decimal` meets its contract: a call that writes n / 10 and one digit more are the digits of n. The measure is n. Assumes nothing.
 use Prim.Native.Nat.{ℕ, _<_}
 use native.Mathlib.Omega.{arith}
 use borrow.Fn.Kinds.{In}

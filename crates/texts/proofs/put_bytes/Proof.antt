@@ -1,4 +1,4 @@
--- `consts::put_bytes` meets its contract. The loop keeps that the first i bytes of the word are put, and nothing else. Assumes nothing.
+-- `texts::put_bytes` meets its contract. The loop keeps that the first i bytes of the word are put, and nothing else. Assumes nothing.
 use Prim.Native.Nat.{_-_}
 use native.Mathlib.Omega.{arith}
 use lib.ListN.{length}

@@ -1,4 +1,4 @@
--- `consts::put_count` meets its contract: the parts are put one after the other, and a usize has at most 20 digits. Assumes nothing.
+-- `texts::put_count` meets its contract: the parts are put one after the other, and a usize has at most 20 digits. Assumes nothing.
 use Prim.Native.Nat.{_≤_}
 use native.Mathlib.Omega.{arith}
 use borrow.Author.Needs.{needs}

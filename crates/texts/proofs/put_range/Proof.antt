@@ -1,4 +1,4 @@
--- `consts::put_range` meets its contract: the parts are put one after the other, and a u32 has at most 10 digits. Assumes nothing.
+-- `texts::put_range` meets its contract: the parts are put one after the other, and a u32 has at most 10 digits. Assumes nothing.
 use Prim.Native.Nat.{_≤_}
 use native.Mathlib.Omega.{arith}
 use borrow.Author.Needs.{needs}

@@ -1,4 +1,4 @@
--- `consts::put_sector` meets its contract: each arm puts the text of its item, and 26 bytes hold the longest. Assumes nothing.
+-- `texts::put_sector` meets its contract: each arm puts the text of its item, and 26 bytes hold the longest. Assumes nothing.
 use Rattle.texts.specs.Text.{textOf}
 use Rattle.texts.proofs.Texts.{put-known}
 use borrow.Author.Needs.{needs}

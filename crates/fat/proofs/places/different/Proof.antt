@@ -1,4 +1,4 @@
--- `marks::different` meets its contract: each stored place is one of its number, so all stand exactly where no number has two.
+-- `places::different` meets its contract: each stored place is one of its number, so all stand exactly where no number has two.
 use mathlib.Core.Path.{_∙_}
 use Rattle.fat.proofs.Differing.{below-kept, places-tell}
 use Rattle.fat.proofs.places.different.Statement.{statement}
