@@ -4,13 +4,13 @@ use mathlib.Core.Path.{_≡_, refl, _∙_, sym, ap}
 use mathlib.Core.List.{List}
 use native.Mathlib.Omega.{arith}
 use lib.ListN.{length}
-use Rattle.fat.specs.Lists.{most, roomOf}
+use Rattle.fat.specs.Lists.{roomOf}
 use Rattle.disk.specs.Disk.{countAfter}
 use Rattle.disk.proofs.Fitting.{count-none}
 use Rattle.hand.specs.Hand.{Chain, extendOne, extend}
 use Rattle.hand.specs.Fits.{FitsChain, FitsMore}
 use Rattle.hand.proofs.Pointing.{handOf, long-none, long-then}
-use Rattle.hand.proofs.Linking.{ChainLong, one-count, one-free, one-fits, one-long, one-counted, more-small, more-one}
+use Rattle.hand.proofs.Linking.{ChainLong, one-count, one-free, one-fits, one-long, one-counted, more-one}
 
 -- no sector more, and one and the others
 pub extend-none : (S : ℕ) (c : Chain) → extend S c 0 ≡ c
@@ -63,21 +63,15 @@ pub record Extending (S R : ℕ) (c₀ : Chain) (more j : ℕ) (c : Chain) : Typ
   pub whole : extend S c₀ more ≡ extend S c (more - j)
   pub long : ChainLong c₀ c
 
-pub extending-begun : (S R n : ℕ) (image fat fats difats frees : List ℕ) (free : ℕ) (marks ids : List ℕ) (count more : ℕ)
-    → FitsMore S R more (chainOf n image fat fats difats frees free marks ids count)
-    → Extending S R (chainOf n image fat fats difats frees free marks ids count) more 0 (chainOf n image fat fats difats frees free marks ids (count + 0))
-extending-begun S R n image fat fats difats frees free marks ids count more f =
-    let a : count + 0 ≡ count = omega arith in
+pub extending-begun : (S R more : ℕ) (c : Chain) → FitsMore S R more c → Extending S R c more 0 c
+extending-begun S R more c f =
     let b : more - 0 ≡ more = omega arith in
-    record { fits = rw (a, b) f; turns = omega arith; whole = rw (a, b); long = rw a (same-chain (chainOf n image fat fats difats frees free marks ids count)) }
+    record { fits = rw b f; turns = omega arith; whole = rw b; long = same-chain c }
 
 -- a turn of it
 module _ {S R : ℕ} {c₀ : Chain} {more j : ℕ} {c : Chain} (g : Extending S R c₀ more j c) where
   turn-fits : j < more → FitsMore S R (suc (more - (j + 1))) c
   turn-fits h = let m : more - j ≡ suc (more - (j + 1)) = omega (arith, h) in rw m at (g .fits)
-
-  pub extending-small : j < more → c .count ≤ most
-  extending-small h = more-small (turn-fits h)
 
   pub extending-one : j < more → R ≡ roomOf S (length (c₀ .hand .disk .image)) → FitsMore S (roomOf S (length (c .hand .disk .image))) 1 c
   extending-one h e = rw (g .long .hand .disk .image-same, ← e) (more-one (turn-fits h))
@@ -98,18 +92,12 @@ module _ {S R : ℕ} {c₀ : Chain} {more j : ℕ} {c : Chain} (g : Extending S 
       let z : more - j ≡ 0 = omega (arith, h) in
       sym (g .whole ∙ ap (extend S c) z ∙ extend-none S c)
 
--- a turn, with the ids counted by the turns
-pub extending-on : {S R : ℕ} {c₀ : Chain} {more j : ℕ} {c : Chain} (g : Extending S R c₀ more j c) → j < more
-    → (n : ℕ) (image fat fats difats frees : List ℕ) (free : ℕ) (marks ids : List ℕ) (count : ℕ)
-    → chainOf n image fat fats difats frees free marks ids (suc (count + j)) ≡ extendOne S c
-    → Extending S R c₀ more (j + 1) (chainOf n image fat fats difats frees free marks ids (count + (j + 1)))
-extending-on {j = j} g h n image fat fats difats frees free marks ids count s =
-    let a : count + (j + 1) ≡ suc (count + j) = omega arith in
-    rw a (extending-turn g h (chainOf n image fat fats difats frees free marks ids (suc (count + j))) s)
+-- a chain by its parts, its ids counted in another way
+pub at-count : {n : ℕ} {image fat fats difats frees : List ℕ} {free : ℕ} {marks ids : List ℕ} {k : ℕ} {e : Chain} (k' : ℕ) → k' ≡ k
+    → chainOf n image fat fats difats frees free marks ids k ≡ e → chainOf n image fat fats difats frees free marks ids k' ≡ e
+at-count k' q h = rw q h
 
-pub extending-end : {S R : ℕ} {c₀ : Chain} {more j n : ℕ} {image fat fats difats frees : List ℕ} {free : ℕ} {marks ids : List ℕ} (count : ℕ)
-    → Extending S R c₀ more j (chainOf n image fat fats difats frees free marks ids (count + j)) → more ≤ j
-    → chainOf n image fat fats difats frees free marks ids (count + more) ≡ extend S c₀ more
-extending-end {more = more} {j = j} {n = n} {image = image} {fat = fat} {fats = fats} {difats = difats} {frees = frees} {free = free} {marks = marks} {ids = ids} count g h =
-    let e : more ≡ j = omega (arith, h, g .turns) in
-    ap (λ (k : ℕ). chainOf n image fat fats difats frees free marks ids (count + k)) e ∙ extending-over g h
+-- how many ids it has where it was extended
+pub extended-at : (S : ℕ) (c : Chain) (m : ℕ) {n : ℕ} {image fat fats difats frees : List ℕ} {free : ℕ} {marks ids : List ℕ} {k : ℕ}
+    → chainOf n image fat fats difats frees free marks ids k ≡ extend S c m → chainOf n image fat fats difats frees free marks ids (c .count + m) ≡ extend S c m
+extended-at S c m e = at-count (c .count + m) (sym (ap (λ (x : Chain). x .count) e ∙ extend-count S c m)) e

@@ -1,9 +1,8 @@
 // A chain extended by the moves on what is in hand.
-use hand::Taken;
+use crate::change::Changed;
 use hand::link_last;
 use hand::take_sector_id;
 ghost use mathlib.Core.Path.{_≡_};
-ghost use Prim.Native.Nat.{suc, _+_};
 ghost use lib.ListN.{length};
 ghost use Rattle.fat.specs.Lists.{roomOf};
 ghost use Rattle.hand.specs.Fits.{FitsMore};
@@ -22,19 +21,23 @@ fn extend_one(
     marks: &mut [u8],
     ids: &mut [u32],
     count: usize,
-) -> Taken
+) -> Changed
     requires { ⌜ FitsMore s (roomOf s (length (now image))) 1 (record { hand = record { disk = record { image = now image; fat = now fat; fats = now fats; difats = now difats; sectors = n }; frees = now frees; free = free; marks = now marks }; ids = now ids; count = count }) ⌝ }
-    ensures { λ r. ⌜ record { hand = record { disk = record { image = now (image .exit); fat = now (fat .exit); fats = now (fats .exit); difats = now (difats .exit); sectors = r .sectors }; frees = now (frees .exit); free = r .free; marks = now (marks .exit) }; ids = now (ids .exit); count = suc count } ≡ extendOne s (record { hand = record { disk = record { image = now (image .entry); fat = now (fat .entry); fats = now (fats .entry); difats = now (difats .entry); sectors = n }; frees = now (frees .entry); free = free; marks = now (marks .entry) }; ids = now (ids .entry); count = count }) ⌝ }
+    ensures { λ r. ⌜ record { hand = record { disk = record { image = now (image .exit); fat = now (fat .exit); fats = now (fats .exit); difats = now (difats .exit); sectors = r .sectors }; frees = now (frees .exit); free = r .free; marks = now (marks .exit) }; ids = now (ids .exit); count = r .ids } ≡ extendOne s (record { hand = record { disk = record { image = now (image .entry); fat = now (fat .entry); fats = now (fats .entry); difats = now (difats .entry); sectors = n }; frees = now (frees .entry); free = free; marks = now (marks .entry) }; ids = now (ids .entry); count = count }) ⌝ }
 {
     let taken = take_sector_id(image, s, n, free, fat, fats, difats, frees);
     let id = taken.id;
     let sectors = taken.sectors;
     link_last(image, s, sectors, fat, fats, marks, ids, count, id);
     ids[count] = id;
-    taken
+    Changed {
+        sectors,
+        free: taken.free,
+        ids: count + 1,
+    }
 }
 
-// Takes more sectors at the end of the chain of count ids. How many sectors there are then, and how many of them are FREE.
+// Takes more sectors at the end of the chain of count ids.
 pub fn extend_by(
     image: &mut [u8],
     s: usize,
@@ -48,20 +51,21 @@ pub fn extend_by(
     ids: &mut [u32],
     count: usize,
     more: usize,
-) -> Taken
+) -> Changed
     requires { ⌜ FitsMore s (roomOf s (length (now image))) more (record { hand = record { disk = record { image = now image; fat = now fat; fats = now fats; difats = now difats; sectors = n }; frees = now frees; free = free; marks = now marks }; ids = now ids; count = count }) ⌝ }
-    ensures { λ r. ⌜ record { hand = record { disk = record { image = now (image .exit); fat = now (fat .exit); fats = now (fats .exit); difats = now (difats .exit); sectors = r .sectors }; frees = now (frees .exit); free = r .free; marks = now (marks .exit) }; ids = now (ids .exit); count = (count + more) } ≡ extend s (record { hand = record { disk = record { image = now (image .entry); fat = now (fat .entry); fats = now (fats .entry); difats = now (difats .entry); sectors = n }; frees = now (frees .entry); free = free; marks = now (marks .entry) }; ids = now (ids .entry); count = count }) more ⌝ }
+    ensures { λ r. ⌜ record { hand = record { disk = record { image = now (image .exit); fat = now (fat .exit); fats = now (fats .exit); difats = now (difats .exit); sectors = r .sectors }; frees = now (frees .exit); free = r .free; marks = now (marks .exit) }; ids = now (ids .exit); count = r .ids } ≡ extend s (record { hand = record { disk = record { image = now (image .entry); fat = now (fat .entry); fats = now (fats .entry); difats = now (difats .entry); sectors = n }; frees = now (frees .entry); free = free; marks = now (marks .entry) }; ids = now (ids .entry); count = count }) more ⌝ }
 {
-    let mut taken = Taken {
-        id: consts::END_OF_CHAIN,
+    let mut grown = Changed {
         sectors: n,
         free,
+        ids: count,
     };
     let mut j = 0;
     while j < more {
-        let sectors = taken.sectors;
-        let left = taken.free;
-        taken = extend_one(
+        let sectors = grown.sectors;
+        let left = grown.free;
+        let listed = grown.ids;
+        grown = extend_one(
             image,
             s,
             sectors,
@@ -72,9 +76,9 @@ pub fn extend_by(
             frees,
             marks,
             ids,
-            count + j,
+            listed,
         );
         j += 1;
     }
-    taken
+    grown
 }

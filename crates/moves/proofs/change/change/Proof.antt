@@ -1,6 +1,7 @@
 -- A chain with fewer sectors than the edit asks for is extended, any other is cut to them; then its bytes are stored.
 use native.Mathlib.Omega.{arith}
 use Rattle.moves.proofs.Editing.{grown-fitted, cut-fitted, edit-asks, edit-small, edit-grow, edit-cut, edit-storable, edited-of}
+use Rattle.moves.proofs.Extending.{extended-at}
 use borrow.Author.Needs.{needs}
 use Rattle.moves.proofs.change.change.Statement.{statement}
 use Rattle.moves.proofs.change.change.Tie as tie
@@ -34,7 +35,7 @@ store-requires : tie.Need-store-requires
 store-requires c κs =
     let g = grown c in
     let k = more (g .before) in
-    edit-storable _ _ _ _ _ (begun (k .before) .pre) _ (k .before .need-of .ensures) _ (grown-fitted _ _ _ (k .if1 .taken) _ _ (g .extend-by .ensures))
+    edit-storable _ _ _ _ _ (begun (k .before) .pre) _ (k .before .need-of .ensures) _ (grown-fitted _ _ _ (k .if1 .taken) _ _ (extended-at _ _ _ (g .extend-by .ensures)))
 
 same-length : tie.Need-same-length
 same-length c = search needs
@@ -61,7 +62,7 @@ returns : tie.Need-returns
 returns c =
     let g = grown (c .before .before .before) in
     let k = more (g .before) in
-    edited-of _ _ _ _ _ (begun (k .before) .pre) _ (k .before .need-of .ensures) _ _ _ _ _ _ _ _ _ (grown-fitted _ _ _ (k .if1 .taken) _ _ (g .extend-by .ensures)) _ (c .before .before .store .ensures)
+    edited-of _ _ _ _ _ (begun (k .before) .pre) _ (k .before .need-of .ensures) _ _ _ _ _ _ _ _ _ (grown-fitted _ _ _ (k .if1 .taken) _ _ (extended-at _ _ _ (g .extend-by .ensures))) _ (c .before .before .store .ensures)
 
 shrink-requires : tie.Need-shrink-requires
 shrink-requires c κs = let k = fewer c in (_, edit-cut _ _ _ _ _ (begun (k .before) .pre) _ (k .before .need-of .ensures) (k .if1 .left))

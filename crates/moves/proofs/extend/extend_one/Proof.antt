@@ -1,6 +1,7 @@
 -- The sector that is taken is linked behind the last one, then listed.
 use native.Mathlib.Omega.{arith}
 use Rattle.hand.proofs.Linking.{more-stock, more-link, more-place, more-small, extended-of}
+use Rattle.moves.proofs.Extending.{at-count}
 use borrow.Author.Needs.{needs}
 use Rattle.moves.proofs.extend.extend_one.Statement.{statement}
 use Rattle.moves.proofs.extend.extend_one.Tie as tie
@@ -29,6 +30,9 @@ mul-ids c = omega (arith, more-small {m = 0} (entry (taken (linked c .before) .b
 slice-write-ids : tie.Need-slice-write-ids
 slice-write-ids c = more-place {m = 0} (entry (taken (linked c .before) .before) .pre)
 
+add-t36 : tie.Need-add-t36
+add-t36 c = omega (arith, more-small {m = 0} (entry (taken (linked c .before) .before) .pre))
+
 same-length : tie.Need-same-length
 same-length c = search needs
 
@@ -52,7 +56,7 @@ same-length-7 c = search needs
 
 returns : tie.Need-returns
 returns c = let l = linked c in
-    extended-of _ _ _ _ _ _ _ (taken (l .before) .take-sector-id .ensures _) (l .link-last .ensures _ _ _)
+    at-count _ (omega arith) (extended-of _ _ _ _ _ _ _ (taken (l .before) .take-sector-id .ensures _) (l .link-last .ensures _ _ _))
 
 pub extend-one-spec : {M : Type 1} → statement M
 extend-one-spec =
@@ -62,6 +66,7 @@ extend-one-spec =
     link-last-requires
     mul-ids
     slice-write-ids
+    add-t36
     same-length
     same-length-2
     same-length-3
