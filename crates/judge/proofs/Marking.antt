@@ -13,8 +13,6 @@ use lib.Seq.{drop-cons, getD-set-same, getD-set-other, set-getD}
 use Rattle.lists.specs.Lists.{both, every}
 use Rattle.lists.proofs.Cases.{same-or, both-left, both-right, every-at, every-of}
 use Rattle.consts.specs.Consts.{difatSector, fatSector}
-use Rattle.fat.specs.Lists.{allBelow}
-use Rattle.fat.proofs.Differing.{below-at}
 use Rattle.judge.specs.Judge.{allMarked, setAll, markedFat}
 
 -- every listed sector has the entry v, at each place
@@ -75,10 +73,6 @@ set-marked fat [] v t = refl
 set-marked fat (k ∷ ks) v t =
     let e : set fat k v ≡ fat = ap (set fat k) (sym (marked-at fat (k ∷ ks) v t 0 (omega arith))) ∙ set-getD fat k 0 in
     ap (λ (l : List ℕ). setAll l ks v) e ∙ set-marked fat ks v (marked-of fat ks v (λ j h. marked-at fat (k ∷ ks) v t (suc j) (omega arith)))
-
--- once set, they have it
-pub marked-setAll : (fat ids : List ℕ) (v : ℕ) → allBelow (length fat) ids ≡ true → allMarked (setAll fat ids v) ids v ≡ true
-marked-setAll fat ids v b = marked-of (setAll fat ids v) ids v (λ j h. setAll-listed fat ids v j h (below-at (length fat) ids b j h))
 
 -- both lists: one after the other, the length, and a FAT that has its marks
 pub markedFat-two : (fat mid last difats fats : List ℕ) → mid ≡ setAll fat difats difatSector → last ≡ setAll mid fats fatSector → last ≡ markedFat fat difats fats
