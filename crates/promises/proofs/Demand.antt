@@ -32,7 +32,7 @@ use Rattle.cfb.proofs.Refusing.{padded-front}
 use Rattle.promises.specs.Demand.{InHand, Asked, write, free, askedNo, chainNamed, chainAfter, handOf, after, Call, afterAll, opened, idsFrom, bytesFrom, bytesAfter, Elsewhere, Another, Promised}
 use Rattle.promises.specs.Whole.{fatHeld}
 use Rattle.promises.proofs.After.{AgreesAfter, resize-agrees, resize-strict, resize-len, write-agrees, write-strict, write-len}
-use Rattle.promises.proofs.Calls.{Walks, resize-rows, resize-fits, resize-walks, resize-edits, resize-keeps, write-rows, write-fits, write-walks, write-edits, write-keeps}
+use Rattle.promises.proofs.Calls.{Walks, edit-rows, resize-fits, resize-walks, resize-edits, resize-keeps, write-fits, write-walks, write-edits, write-keeps}
 use Rattle.promises.proofs.Naming.{first-named, resize-stays, resize-gone, write-stays, write-longer}
 use Rattle.promises.proofs.Others.{Absent, resize-others-walk, resize-others-bytes, write-others-walk, write-others-bytes}
 use Rattle.promises.proofs.Kept.{Sure, sure-fresh, opened-sure}
@@ -153,7 +153,7 @@ write-done h room start offset buf z =
       len = write-len (h .state) (h .image) (h .tables) room start offset buf z;
       walks = write-walks (h .state) (h .image) (h .tables) room start offset buf z;
       count = chain-listed (stateLen (h .state)) _ _ (written-fits (stateLen (h .state)) _ offset buf _ (write-fits (h .state) (h .image) (h .tables) room start offset buf z));
-      first = first-named (h .state) (h .image) (h .tables) room start (write-rows (h .state) (h .image) (h .tables) room start offset buf z .0);
+      first = first-named (h .state) (h .image) (h .tables) room start (edit-rows (h .state) (h .image) (h .tables) room start (Write offset) (length buf) z);
       stays = λ p a b. write-stays (h .state) (h .image) (h .tables) room start offset buf z p a;
       gone = λ p a b. absurd (omega (arith, a, b, write-longer (h .state) (h .image) (h .tables) room start offset buf z));
       bytes = write-edits (h .state) (h .image) (h .tables) room start offset buf z;
@@ -170,7 +170,7 @@ resize-done h room start len buf z =
       len = resize-len (h .state) (h .image) (h .tables) room start len z;
       walks = resize-walks (h .state) (h .image) (h .tables) room start len z;
       count = chain-listed (stateLen (h .state)) _ _ (resized-fits (stateLen (h .state)) _ len _ (resize-fits (h .state) (h .image) (h .tables) room start len z));
-      first = first-named (h .state) (h .image) (h .tables) room start (resize-rows (h .state) (h .image) (h .tables) room start len z .0);
+      first = first-named (h .state) (h .image) (h .tables) room start (edit-rows (h .state) (h .image) (h .tables) room start (Resize len) 0 z);
       stays = resize-stays (h .state) (h .image) (h .tables) room start len z;
       gone = resize-gone (h .state) (h .image) (h .tables) room start len z;
       bytes = resize-edits (h .state) (h .image) (h .tables) room start len z;
