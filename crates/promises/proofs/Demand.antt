@@ -55,7 +55,7 @@ pub record Done (h : InHand) (room : ℕ) (ask : Asked) (c : Chain) (xs : List �
   pub others-bytes : (x : ℕ) (ids : List ℕ) → Absent (idsFrom h (ask .start)) x → walkOf (take (h .state .sectors) (h .tables .fat)) x ≡ lists ids
       → chainBytes (stateLen (h .state)) (c .hand .disk .image) ids ≡ chainBytes (stateLen (h .state)) (h .image) ids
 
--- and of one that asks for so much: they are what the demand says
+-- and where they become what the demand says of what was asked for
 abbrev DoneAsked : InHand → ℕ → Asked → Type 0
 DoneAsked h room ask =
     Done h room ask (chainAfter h room ask) (bytesAfter (stateLen (h .state)) (ask .edit) (ask .buf) (bytesFrom h (ask .start)) (length (idsFrom h (ask .start))))
