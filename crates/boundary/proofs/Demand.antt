@@ -1,8 +1,9 @@
 -- What C has in hand after any run is, in words, what the third demand speaks of, and so the demand holds of every further call by C. Assumes nothing.
-use Prim.Native.Nat.{ℕ}
+use Prim.Native.Nat.{ℕ, _≤_}
 use mathlib.Core.Path.{_≡_, refl, sym, _∙_, ap, ap₂, subst}
 use mathlib.Core.Bool.{Bool, true, false}
 use mathlib.Core.List.{List}
+use native.Mathlib.Omega.{arith}
 use lib.Dec.{eqb}
 use lib.ListN.{length, getD, take}
 use lib.Seq.{take-at}
@@ -10,9 +11,14 @@ use Rattle.lists.specs.Lists.{choose, Below}
 use Rattle.header.specs.declared.Validation.{Validation}
 use Rattle.header.specs.declared.Validation.the-variants.{Strict}
 use Rattle.alloc.specs.Opening.{Tables, openNo, shortest, leftIn}
-use Rattle.alloc.specs.Opened.{tablesLeft}
+use Rattle.alloc.specs.Opened.{padded, tablesLeft}
 use Rattle.agree.specs.Agrees.{Permuted}
+use Rattle.moves.specs.Change.{edited, bytesOf}
+use Rattle.moves.specs.declared.change.Edit.{Edit}
+use Rattle.moves.specs.declared.change.Edit.the-variants.{Write, Resize}
+use Rattle.cfb.specs.Calls.{stateLen}
 use Rattle.cfb.specs.Changes.{chainFrom, stateFrom, tablesIn}
+use Rattle.cfb.proofs.Refusing.{padded-past}
 use Rattle.cfb.specs.Face.{tablesOf, stateOf}
 use Rattle.cfb.specs.declared.State.{State}
 use Rattle.layout.specs.Layout.{modeOf}
@@ -20,9 +26,9 @@ use Rattle.states.specs.States.{stateWords, holds, heldIn}
 use Rattle.states.specs.Answers.{given, heldNo}
 use Rattle.states.proofs.Again.{state-again, opened-holds}
 use Rattle.export.specs.Opening.{OpenGives}
-use Rattle.export.specs.Changes.{ChangeGives}
+use Rattle.export.specs.Changes.{ChangeGives, WriteChainGives, ResizeChainGives}
 use Rattle.export.proofs.Changing.{held-number, changed-holds}
-use Rattle.promises.specs.Demand.{InHand, Edit, write, resize, free, editNo, chainAfter, handOf, after, Call, afterAll, opened, startAfter, Fresh, Promised}
+use Rattle.promises.specs.Demand.{InHand, Asked, write, resize, free, askedNo, chainNamed, chainAfter, handOf, after, Call, afterAll, opened, startAfter, Fresh, Promised}
 use Rattle.promises.proofs.Following.{hand}
 use Rattle.promises.proofs.Demand.{demand-three}
 use Rattle.boundary.specs.Runs.{InWords, worded, handIn, Got, Gives, OfBytes, Leads, done, call, Run, Same, Keeps}
@@ -46,22 +52,23 @@ worded-chosen : (k : Bool) (x y : InHand)
 worded-chosen true x y = refl
 worded-chosen false x y = refl
 
--- the bytes that the answer to an edit tells of
-abbrev bytesOf : Edit → ℕ
-bytesOf (write start offset buf) = length buf
-bytesOf (resize start len) = 0
-bytesOf (free start) = 0
+-- the contract of each of the three functions is that of what it asks for
+pub write-gives : (w : InWords) (ids : List ℕ) (start offset : ℕ) (buf : List ℕ) (g : Got)
+    → WriteChainGives (w .words) (w .image) (w .tables) ids start offset buf (g .number) (g .answer) (g .left .words) (g .left .image) (g .left .tables) (g .ids) → Gives w ids (write start offset buf) g
+write-gives w ids start offset buf g x = x
+
+pub resize-gives : (w : InWords) (ids : List ℕ) (start len : ℕ) (g : Got)
+    → ResizeChainGives (w .words) (w .image) (w .tables) ids start len (g .number) (g .answer) (g .left .words) (g .left .image) (g .left .tables) (g .ids) → Gives w ids (resize start len) g
+resize-gives w ids start len g x = x
+
+pub free-gives : (w : InWords) (ids : List ℕ) (start : ℕ) (g : Got)
+    → ResizeChainGives (w .words) (w .image) (w .tables) ids start 0 (g .number) (g .answer) (g .left .words) (g .left .image) (g .left .tables) (g .ids) → Gives w ids (free start) g
+free-gives w ids start g x = x
 
 -- a change at the edge on what is in hand, whose number and chain are those of s
-abbrev Change : InWords → InHand → List ℕ → Edit → Got → Type 0
-Change w s ids e g =
-    ChangeGives (w .words) (w .image) (w .tables) ids (heldNo (w .words) (editNo s (length ids) e)) (chainAfter s (length ids) e) (bytesOf e) (g .number) (g .answer) (g .left .words) (g .left .image) (g .left .tables) (g .ids)
-
--- the three contracts are such changes
-gives-change : (w : InWords) (ids : List ℕ) (e : Edit) (g : Got) → Gives w ids e g → Change w (handIn w) ids e g
-gives-change w ids (write start offset buf) g x = x
-gives-change w ids (resize start len) g x = x
-gives-change w ids (free start) g x = x
+abbrev Change : InWords → InHand → List ℕ → Asked → Got → Type 0
+Change w s ids a g =
+    ChangeGives (w .words) (w .image) (w .tables) ids (heldNo (w .words) (askedNo s (length ids) a)) (chainAfter s (length ids) a) (bytesOf (a .edit) (length (a .buf))) (g .number) (g .answer) (g .left .words) (g .left .image) (g .left .tables) (g .ids)
 
 -- what is in hand has an image of bytes, and words that hold a state
 record Whole (h : InHand) : Type 0 where
@@ -74,63 +81,62 @@ record Follows (h : InHand) (w : InWords) : Type 0 where
   whole : Whole h
 
 -- one call by C on the words of h
-module _ (h : InHand) (w : InWords) (f : Follows h w) (ids : List ℕ) (e : Edit) (g : Got) (small : OfBytes e) (x : Gives w ids e g) where
+module _ (h : InHand) (w : InWords) (f : Follows h w) (ids : List ℕ) (a : Asked) (g : Got) (small : OfBytes (a .edit) (a .buf)) (x : Gives w ids a g) where
   -- it is a change of h
-  change-of : Change (worded h) h ids e g
+  change-of : Change (worded h) h ids a g
   change-of =
-      subst (λ (s : InHand). Change (worded h) s ids e g) (in-again h)
-      (gives-change (worded h) ids e g (subst (λ (v : InWords). Gives v ids e g) (f .same) x))
+      subst (λ (s : InHand). Change (worded h) s ids a g) (in-again h)
+      (subst (λ (v : InWords). Gives v ids a g) (f .same) x)
 
   -- its number is that of document 01's table, for the words hold a state
-  same-number : heldNo (stateWords (h .state)) (editNo h (length ids) e) ≡ editNo h (length ids) e
-  same-number = sym (held-number (stateWords (h .state)) (editNo h (length ids) e) (f .whole .words))
+  same-number : heldNo (stateWords (h .state)) (askedNo h (length ids) a) ≡ askedNo h (length ids) a
+  same-number = sym (held-number (stateWords (h .state)) (askedNo h (length ids) a) (f .whole .words))
 
-  call-number : g .number ≡ editNo h (length ids) e
+  call-number : g .number ≡ askedNo h (length ids) a
   call-number = change-of .number ∙ same-number
 
   -- where it is accepted, it answers the start of the chain after it
-  call-start : g .number ≡ 0 → getD (g .answer) 1 0 ≡ startAfter h (length ids) e
+  call-start : g .number ≡ 0 → getD (g .answer) 1 0 ≡ startAfter h (length ids) a
   unfolding given
   call-start z =
       ap (λ (xs : List ℕ). getD xs 1 0)
       (change-of .answer
-      ∙ ap (λ (n : ℕ). given n (chainAfter h (length ids) e .count) (startAfter h (length ids) e) (bytesOf e)) (sym (change-of .number) ∙ z))
+      ∙ ap (λ (n : ℕ). given n (chainAfter h (length ids) a .count) (startAfter h (length ids) a) (bytesOf (a .edit) (length (a .buf)))) (sym (change-of .number) ∙ z))
 
   -- it leaves, in words, what is in hand after the edit
-  call-left : g .left ≡ worded (after h (length ids) e)
+  call-left : g .left ≡ worded (after h (length ids) a)
   unfolding after handOf
   call-left =
       laid-same _ _ _ _ _ _
       (change-of .state
-      ∙ ap₂ (λ (n : ℕ) (s : State). choose (eqb n 0) (stateWords (stateFrom s (chainAfter h (length ids) e))) (stateWords (h .state))) same-number (state-again (h .state)))
-      (change-of .image ∙ ap (λ (n : ℕ). choose (eqb n 0) (chainAfter h (length ids) e .hand .disk .image) (h .image)) same-number)
-      (change-of .tables ∙ ap (λ (n : ℕ). choose (eqb n 0) (tablesIn (chainAfter h (length ids) e)) (h .tables)) same-number)
-      ∙ worded-chosen (eqb (editNo h (length ids) e) 0) (handOf (h .state) (chainAfter h (length ids) e)) h
+      ∙ ap₂ (λ (n : ℕ) (s : State). choose (eqb n 0) (stateWords (stateFrom s (chainAfter h (length ids) a))) (stateWords (h .state))) same-number (state-again (h .state)))
+      (change-of .image ∙ ap (λ (n : ℕ). choose (eqb n 0) (chainAfter h (length ids) a .hand .disk .image) (h .image)) same-number)
+      (change-of .tables ∙ ap (λ (n : ℕ). choose (eqb n 0) (tablesIn (chainAfter h (length ids) a)) (h .tables)) same-number)
+      ∙ worded-chosen (eqb (askedNo h (length ids) a) 0) (handOf (h .state) (chainAfter h (length ids) a)) h
 
   -- the chain that it names is in an image of bytes, and so is what it makes of that chain
-  named-bytes : (start : ℕ) → OnChain (chainFrom (h .state) (h .image) (h .tables) (length ids) start)
+  named-bytes : OnChain (chainNamed h (length ids) a)
   unfolding chainFrom
-  named-bytes start = of-bytes _ (f .whole .image)
+  named-bytes = of-bytes _ (f .whole .image)
 
-  chain-bytes : (e : Edit) → OfBytes e → OnChain (chainAfter h (length ids) e)
-  chain-bytes (write start offset buf) b = written-bytes _ _ offset buf (named-bytes start) b
-  chain-bytes (resize start len) b = resized-bytes _ _ len (named-bytes start)
-  chain-bytes (free start) b = resized-bytes _ _ 0 (named-bytes start)
+  chain-bytes : (e : Edit) (buf : List ℕ) → OfBytes e buf → OnChain (edited (stateLen (h .state)) (chainNamed h (length ids) a) e buf)
+  chain-bytes (Write offset) buf b = written-bytes _ _ offset buf named-bytes b
+  chain-bytes (Resize len) buf b = resized-bytes _ _ len named-bytes
 
   -- so that the words hold a state where it is accepted, and where it is refused
-  done-whole : Whole (handOf (h .state) (chainAfter h (length ids) e))
+  done-whole : Whole (handOf (h .state) (chainAfter h (length ids) a))
   unfolding handOf
-  done-whole = record { image = bytes-of _ (chain-bytes e small); words = changed-holds (h .state) (chainAfter h (length ids) e) (bytes-of _ (chain-bytes e small)) }
+  done-whole = record { image = bytes-of _ (chain-bytes (a .edit) (a .buf) small); words = changed-holds (h .state) (chainAfter h (length ids) a) (bytes-of _ (chain-bytes (a .edit) (a .buf) small)) }
 
-  call-follows : Follows (after h (length ids) e) (g .left)
+  call-follows : Follows (after h (length ids) a) (g .left)
   unfolding after
-  call-follows = record { same = call-left; whole = chosen-so Whole (eqb (editNo h (length ids) e) 0) _ h done-whole (f .whole) }
+  call-follows = record { same = call-left; whole = chosen-so Whole (eqb (askedNo h (length ids) a) 0) _ h done-whole (f .whole) }
 
 -- any list of calls leaves, in words, what is in hand after their edits
 leads-follow : (last w : InWords) (cs : List Call) → Leads last w cs → (h : InHand) → Follows h w → Follows (afterAll h cs) last
 unfolding afterAll
 leads-follow last w cs done h f = f
-leads-follow last w cs (call v ids e g rest small x then) h f = leads-follow last (g .left) rest then (after h (length ids) e) (call-follows h v f ids e g small x)
+leads-follow last w cs (call v ids a g rest small x then) h f = leads-follow last (g .left) rest then (after h (length ids) a) (call-follows h v f ids a g small x)
 
 -- an opening by C whose mode word means strict: its number, and what it leaves where that is 0
 module _ (mode : ℕ) (img : List ℕ) (used : ℕ) (t : Tables) (r : ℕ) (words img' : List ℕ) (t' : Tables) (strict : modeOf mode ≡ Strict) (x : OpenGives mode img used t r words img' t') where
@@ -162,6 +168,13 @@ module _ (img : List ℕ) (used : ℕ) (t : Tables) (cs : List Call) (w : InWord
   pub boundary-follows : w ≡ worded (afterAll (opened img used t) cs)
   boundary-follows = run-follows .same
 
+-- an opening leaves zeros behind its free list
+opened-rest : (img : List ℕ) (used : ℕ) (t : Tables) (s : State) (i : ℕ) → opened img used t .state ≡ s → s .free ≤ i → getD (opened img used t .tables .frees) i 0 ≡ 0
+unfolding opened stateOf tablesLeft leftIn padded
+opened-rest img used t s i e l =
+    let past : length (tablesOf img used .frees) ≤ i = omega (arith, l, ap (λ (x : State). x .free) e) in
+    padded-past (tablesOf img used .frees) (length (t .frees)) i past
+
 -- what opens afresh to what is in hand does so for C
 fresh-same : (w : InWords) → Fresh (handIn w) → stateWords (heldIn (w .words)) ≡ w .words → (mode r : ℕ) (words img : List ℕ) (t : Tables) → modeOf mode ≡ Strict
     → OpenGives mode (w .image) (getD (w .words) 1 0) (w .tables) r words img t → Same w r words img t
@@ -179,21 +192,22 @@ fresh-same w f again mode r words img t strict x =
       frees =
           subst (λ (xs : List ℕ). Permuted xs (take (getD (w .words) 3 0) (w .tables .frees)))
           (sym (ap (λ (v : InWords). take (getD (w .words) 3 0) (v .tables .frees)) all ∙ take-at _ _ _ (ap (λ (s : State). s .free) (f .state)))) (f .frees);
+      frees-rest = λ i past inside. (ap (λ (v : InWords). getD (v .tables .frees) i 0) all ∙ opened-rest (w .image) (getD (w .words) 1 0) (w .tables) (heldIn (w .words)) i (f .state) past, f .frees-rest i past inside);
     }
 
 -- the demand of what is in hand, told of its words
-keeps-so : (w : InWords) (ids : List ℕ) (e : Edit) (g : Got) (h k : InHand) → w ≡ worded h → g .left ≡ worded k → g .number ≡ editNo h (length ids) e
-    → (g .number ≡ 0 → getD (g .answer) 1 0 ≡ startAfter h (length ids) e) → Promised h (length ids) e k → holds (stateWords (k .state)) ≡ true → Keeps w ids e g
-keeps-so w ids e g h k before left number start p held =
+keeps-so : (w : InWords) (ids : List ℕ) (a : Asked) (g : Got) (h k : InHand) → w ≡ worded h → g .left ≡ worded k → g .number ≡ askedNo h (length ids) a
+    → (g .number ≡ 0 → getD (g .answer) 1 0 ≡ startAfter h (length ids) a) → Promised h (length ids) a k → holds (stateWords (k .state)) ≡ true → Keeps w ids a g
+keeps-so w ids a g h k before left number start p held =
     let was : handIn w ≡ h = ap (λ (v : InWords). handIn v) before ∙ in-again h in
     let is : handIn (g .left) ≡ k = ap (λ (v : InWords). handIn v) left ∙ in-again k in
     let words : g .left .words ≡ stateWords (k .state) = ap (λ (v : InWords). v .words) left in
     let again : stateWords (heldIn (g .left .words)) ≡ g .left .words = ap stateWords (ap (λ (v : InHand). v .state) is) ∙ sym words in
-    let promised : Promised (handIn w) (length ids) e (handIn (g .left)) =
-    subst (λ (v : InHand). Promised v (length ids) e (handIn (g .left))) (sym was) (subst (λ (v : InHand). Promised h (length ids) e v) (sym is) p) in
+    let promised : Promised (handIn w) (length ids) a (handIn (g .left)) =
+    subst (λ (v : InHand). Promised v (length ids) a (handIn (g .left))) (sym was) (subst (λ (v : InHand). Promised h (length ids) a v) (sym is) p) in
     record {
-      number = number ∙ ap (λ (v : InHand). editNo v (length ids) e) (sym was);
-      start = λ z. start z ∙ ap (λ (v : InHand). startAfter v (length ids) e) (sym was);
+      number = number ∙ ap (λ (v : InHand). askedNo v (length ids) a) (sym was);
+      start = λ z. start z ∙ ap (λ (v : InHand). startAfter v (length ids) a) (sym was);
       promised = promised;
       holding = ap holds words ∙ held;
       words = again;
@@ -202,9 +216,9 @@ keeps-so w ids e g h k before left number start p held =
 
 -- The third demand for a caller in C: after any run, whatever call of the three comes next keeps it. The run may have no call, so that it holds of the first one too, and so of every one in a run.
 pub demand-three-words : (img : List ℕ) (used : ℕ) (t : Tables) (cs : List Call) (w : InWords) → Run img used t cs w
-    → (ids : List ℕ) (e : Edit) (g : Got) → OfBytes e → Gives w ids e g → Keeps w ids e g
-demand-three-words img used t cs w run ids e g small x =
+    → (ids : List ℕ) (a : Asked) (g : Got) → OfBytes (a .edit) (a .buf) → Gives w ids a g → Keeps w ids a g
+demand-three-words img used t cs w run ids a g small x =
     let h = afterAll (opened img used t) cs in
     let f = run-follows img used t cs w run in
-    keeps-so w ids e g h (after h (length ids) e) (f .same) (call-left h w f ids e g small x) (call-number h w f ids e g small x)
-    (call-start h w f ids e g small x) (demand-three img used t (run-opens img used t cs w run) cs (length ids) e) (call-follows h w f ids e g small x .whole .words)
+    keeps-so w ids a g h (after h (length ids) a) (f .same) (call-left h w f ids a g small x) (call-number h w f ids a g small x)
+    (call-start h w f ids a g small x) (demand-three img used t (run-opens img used t cs w run) cs (length ids) a) (call-follows h w f ids a g small x .whole .words)

@@ -29,8 +29,9 @@ use Rattle.moves.proofs.Shrinking.{shrink-fits, shrink-ids, shrink-count, shrin
 use Rattle.moves.proofs.Changing.{chain-listed, chain-id, chain-lies, chain-writable, shrunk-writable, resized-more, resized-fewer, resize-shrink, write-covers}
 use Rattle.moves.proofs.Staying.{extend-apart}
 use Rattle.edits.specs.Roles.{Roles}
-use Rattle.edits.specs.Untouched.{Beside, UnnamedFrom, Unlisted, Untouched, Other, Others}
-use Rattle.edits.proofs.Joining.{sector-stays, chain-stays, other-untouched}
+use Rattle.edits.specs.Untouched.{Beside, UnnamedFrom, Unlisted, Other, Others}
+use Rattle.edits.proofs.Named.{unnamed-past}
+use Rattle.edits.proofs.Joining.{sector-stays, chain-stays, sector-past, other-unlisted}
 use Rattle.edits.proofs.Extended.{extended-bytes, extended-spares, extended-other}
 use Rattle.edits.proofs.Shrunk.{shrunk-unlisted, shrunk-sector, shrunk-bytes, shrunk-other}
 
@@ -40,19 +41,22 @@ unfolding resizeMore
 resize-asks S c len i l = omega (arith, l)
 
 -- how many bytes a chain has
-pub bytes-counted : (S R : ℕ) (c : Chain) → FitsChain S R c → length (chainBytes S (c .hand .disk .image) (idsOf c)) ≡ S * c .count
+bytes-counted : (S R : ℕ) (c : Chain) → FitsChain S R c → length (chainBytes S (c .hand .disk .image) (idsOf c)) ≡ S * c .count
 bytes-counted S R c f =
     length-chain S (c .hand .disk .image) (idsOf c) (chain-lies S R c f) ∙ ap (λ (k : ℕ). S * k) (chain-listed S R c f)
 
--- sectors that belong to others keep their bytes where what is untouched stays
+-- sectors that belong to others keep their bytes where what is neither named nor in a listed sector stays
 pub others-stay : (S R : ℕ) (c e : Chain) → FitsChain S R c → length (e .hand .disk .image) ≡ length (c .hand .disk .image)
-    → ((b : ℕ) → Untouched S e b → getD (e .hand .disk .image) b 0 ≡ getD (c .hand .disk .image) b 0) → ((i : ℕ) → Other S c i → Other S e i)
+    → ((b : ℕ) → UnnamedFrom S (c .hand .disk) (e .hand .disk) b → Unlisted S e b → getD (e .hand .disk .image) b 0 ≡ getD (c .hand .disk .image) b 0)
+    → ((i : ℕ) → Other S c i → Other S e i)
     → (others : List ℕ) → Others S c others → chainBytes S (e .hand .disk .image) others ≡ chainBytes S (c .hand .disk .image) others
 others-stay S R c e f same stays keeps others o =
     chain-stays S (c .hand .disk .image) (e .hand .disk .image) others (λ j l.
     sector-stays S (c .hand .disk .image) (e .hand .disk .image) (getD others j 0) same
     (sectors-inside S R _ _ (c .hand .disk) (f .fits .disk) (getD others j 0) (omega (arith, o .each j l .inside, f .fits .disk .inside)))
-    (λ x hx. stays (startOf S (getD others j 0) + x) (other-untouched S e (getD others j 0) x (f .fits .disk .header) hx (keeps (getD others j 0) (o .each j l)))))
+    (λ x hx.
+    stays (startOf S (getD others j 0) + x) (unnamed-past (sector-past S (getD others j 0) x (f .fits .disk .header)))
+    (other-unlisted S e (getD others j 0) x hx (keeps (getD others j 0) (o .each j l)))))
 
 -- the image holds other bytes: the lists stay
 with-unlisted : (S : ℕ) (c : Chain) (img : List ℕ) (b : ℕ) → Unlisted S (withImage c img) b → Unlisted S c b

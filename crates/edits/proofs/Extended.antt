@@ -2,7 +2,7 @@
 use Prim.Native.Nat.{ℕ, zero, suc, _+_, _-_, _*_, _≤_, _<_}
 use mathlib.Core.Path.{_≡_, refl, _∙_, sym, ap}
 use mathlib.Core.List.{List, [], _∷_, _++_, append-assoc, append-nil}
-use mathlib.Core.Logic.{inr, ⊎-elim, _≢_}
+use mathlib.Core.Logic.{⊎-elim, _≢_}
 use native.Mathlib.Omega.{arith}
 use native.Mathlib.Nat.{mul-suc, mul-zero}
 use lib.ListN.{length, getD, replicate, length-replicate, getD-replicate, replicate-append-replicate}
@@ -27,7 +27,7 @@ use Rattle.edits.specs.Roles.{Roles, fatsHeld, difatsHeld}
 use Rattle.edits.specs.Untouched.{Beside, UnnamedFrom, Unlisted, Other}
 use Rattle.edits.proofs.Listed.{listed-stays, listed-none}
 use Rattle.edits.proofs.Growing.{one-grown}
-use Rattle.edits.proofs.Named.{unnamed-within, unnamed-outside}
+use Rattle.edits.proofs.Named.{unnamed-within, unnamed-past}
 use Rattle.edits.proofs.Taking.{one-spares, one-zero}
 use Rattle.edits.proofs.Roles.{one-roles, one-listed}
 use Rattle.edits.proofs.Joining.{chain-append, chain-single, sector-stays, chain-stays, sector-past, other-aside}
@@ -60,7 +60,7 @@ module _ (S R m : ℕ) (c : Chain) (f : FitsMore S R (suc m) c) (r : Roles S R c
       (sectors-inside S R _ _ (c .hand .disk) (r .fits .fits .disk) (getD (c .ids) j 0) (omega (arith, r .fits .within j l, r .fits .fits .disk .inside)))
       (λ x hx.
       let past : 512 ≤ startOf S (getD (c .ids) j 0) + x = sector-past S (getD (c .ids) j 0) x big in
-      one-spares f (startOf S (getD (c .ids) j 0) + x) (unnamed-outside (inr (omega (arith, past))) (inr past))
+      one-spares f (startOf S (getD (c .ids) j 0) + x) (unnamed-past past)
       (other-aside S (extendOne S c .hand .disk) (getD (c .ids) j 0) x hx
       (λ p h e. r1 .ids-fats j p low h (same ∙ sym e)) (λ p h e. r1 .ids-difats j p low h (same ∙ sym e)))
       (sector-other S (takenId S (c .hand)) (getD (c .ids) j 0) x (λ e. taken-other S R c (f .fits) (r .apart) j l (sym e)) hx))

@@ -11,7 +11,7 @@ use Rattle.hand.proofs.Freeing.{free-none, free-more, free-one-count}
 use Rattle.edits.proofs.Growing.{SameLists}
 
 -- one sector freed
-pub one-frees : (S : ℕ) (h : Hand) (i : ℕ) → freeSectorOf S h i .frees ≡ set (h .frees) (h .free) i
+one-frees : (S : ℕ) (h : Hand) (i : ℕ) → freeSectorOf S h i .frees ≡ set (h .frees) (h .free) i
 unfolding freeSectorOf
 one-frees S h i = refl
 

@@ -241,7 +241,7 @@ reused-grown S d id h =
     grown-none S d _ _ _ _ id (reused-lists S d id .0) (reused-lists S d id .1) k (ap (difatCount S) k) (omega (arith, h))
 
 -- a sector is taken, either way
-pub take-grown : (S R : ℕ) (h : Hand) → FitsHand S R h → (h .free ≡ 0 → oneMore S (h .disk .sectors) ≤ R)
+take-grown : (S R : ℕ) (h : Hand) → FitsHand S R h → (h .free ≡ 0 → oneMore S (h .disk .sectors) ≤ R)
     → GrownTo S (h .disk) (takeSector S h .disk) (takenId S h)
 take-grown S R h f room =
     ⊎-elim
@@ -255,7 +255,7 @@ pub record SameLists (d e : Disk) : Type 0 where
   pub fats : e .fats ≡ d .fats
   pub difats : e .difats ≡ d .difats
 
-pub point-lists : (S : ℕ) (h : Hand) (i v : ℕ) → SameLists (h .disk) (point S h i v .disk)
+point-lists : (S : ℕ) (h : Hand) (i v : ℕ) → SameLists (h .disk) (point S h i v .disk)
 unfolding point setFat
 point-lists S h i v = record { sectors = refl; fats = refl; difats = refl }
 

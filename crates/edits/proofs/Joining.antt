@@ -2,7 +2,7 @@
 use Prim.Native.Nat.{ℕ, suc, _+_, _*_, _≤_, _<_}
 use mathlib.Core.Path.{_≡_, refl, _∙_, sym, ap}
 use mathlib.Core.List.{List, [], _∷_, _++_, flatMap, append-assoc, append-nil}
-use mathlib.Core.Logic.{inr, _≢_}
+use mathlib.Core.Logic.{_≢_}
 use native.Mathlib.Omega.{arith}
 use native.Mathlib.Nat.{add-mul, one-mul}
 use lib.ListN.{length, getD, take, drop, take-append-drop}
@@ -16,7 +16,7 @@ use Rattle.chain.proofs.Bytes.{length-chain}
 use Rattle.disk.specs.Disk.{Disk}
 use Rattle.hand.specs.Hand.{Chain}
 use Rattle.edits.specs.Roles.{fatsHeld, difatsHeld}
-use Rattle.edits.specs.Untouched.{Aside, Untouched, Other}
+use Rattle.edits.specs.Untouched.{Aside, Unlisted, Other}
 
 -- the bytes of two lists of sectors, and of one sector
 pub chain-append : (S : ℕ) (img xs ys : List ℕ) → chainBytes S img (xs ++ ys) ≡ chainBytes S img xs ++ chainBytes S img ys
@@ -69,11 +69,7 @@ other-aside S d i x l no-fat no-difat =
       in-no-difat = λ p h. sector-other S (getD (d .difats) p 0) i x (no-difat p h) l;
     }
 
--- so the bytes of a sector that belongs to another are untouched
-pub other-untouched : (S : ℕ) (c : Chain) (i x : ℕ) → 512 ≤ S → x < S → Other S c i → Untouched S c (startOf S i + x)
-other-untouched S c i x big l o =
-    record {
-      fat-field = inr (omega (arith, sector-past S i x big));
-      difat-fields = inr (sector-past S i x big);
-      unlisted = record { aside = other-aside S (c .hand .disk) i x l (o .no-fat) (o .no-difat); in-no-id = λ p h. sector-other S (getD (c .ids) p 0) i x (o .no-id p h) l };
-    }
+-- so the bytes of a sector that belongs to another stand in no listed one
+pub other-unlisted : (S : ℕ) (c : Chain) (i x : ℕ) → x < S → Other S c i → Unlisted S c (startOf S i + x)
+other-unlisted S c i x l o =
+    record { aside = other-aside S (c .hand .disk) i x l (o .no-fat) (o .no-difat); in-no-id = λ p h. sector-other S (getD (c .ids) p 0) i x (o .no-id p h) l }

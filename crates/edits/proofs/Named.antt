@@ -4,8 +4,7 @@ use mathlib.Core.Path.{_≡_}
 use mathlib.Core.Logic.{_⊎_, inl, inr}
 use native.Mathlib.Omega.{arith}
 use Rattle.fields.specs.Fields.{fatsAt, difatAt, entriesAt, offsetOf, widthOf}
-use Rattle.hand.specs.Hand.{Chain}
-use Rattle.edits.specs.Untouched.{NotIn, Unnamed, Untouched}
+use Rattle.edits.specs.Untouched.{NotIn, Unnamed}
 
 -- a change within another names no more
 pub unnamed-within : {k k' j j' l l' i i' b : ℕ} → Unnamed k k' j j' b → k ≤ l → l' ≤ k' → j ≤ i → i' ≤ j' → Unnamed l l' i i' b
@@ -54,6 +53,6 @@ unnamed-outside c (inr h) =
       entry = λ x g a near. inr (omega (arith, h, near));
     }
 
--- so none names one that is untouched
-pub untouched-unnamed : {S : ℕ} {c : Chain} {k k' j j' b : ℕ} → Untouched S c b → Unnamed k k' j j' b
-untouched-unnamed u = unnamed-outside (u .fat-field) (u .difat-fields)
+-- and so none past the header's 512 bytes of fields
+pub unnamed-past : {k k' j j' b : ℕ} → 512 ≤ b → Unnamed k k' j j' b
+unnamed-past h = unnamed-outside (inr (omega (arith, h))) (inr h)

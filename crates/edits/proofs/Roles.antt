@@ -7,23 +7,24 @@ use native.Mathlib.Omega.{arith}
 use lib.ListN.{length, getD}
 use Rattle.lists.proofs.Cases.{below-or, same-or}
 use Rattle.consts.specs.Consts.{endOfChain}
-use Rattle.fat.specs.Lists.{ceil, fatCount, difatCount}
+use Rattle.fat.specs.Lists.{ceil}
 use Rattle.room.specs.Needed.{resizeMore, writeMore}
-use Rattle.hand.specs.Hand.{Hand, Chain, point, takenId, takeSector, extendOne, extend, freeSectorOf, freeRun}
+use Rattle.hand.specs.Hand.{Chain, takenId, extendOne, extend}
 use Rattle.hand.specs.Fits.{FitsChain, FitsMore}
-use Rattle.moves.specs.Change.{cut, shrink, withImage, resized, written, Apart, FitsShrink, FitsResize, FitsWrite}
-use Rattle.hand.proofs.Pointing.{point-fits, point-counts}
-use Rattle.hand.proofs.Taking.{id-new, id-last, take-free, take-sectors-grow}
-use Rattle.hand.proofs.Linking.{one-free, one-fits, more-place, more-room, more-taken}
+use Rattle.moves.specs.Change.{cut, shrink, withImage, resized, written, edited, Apart, FitsShrink, FitsResize, FitsWrite, FitsEdit}
+use Rattle.moves.specs.declared.change.Edit.{Edit}
+use Rattle.moves.specs.declared.change.Edit.the-variants.{Write, Resize}
+use Rattle.hand.proofs.Taking.{id-new, id-last}
+use Rattle.hand.proofs.Linking.{one-free, one-fits, more-place}
 use Rattle.moves.proofs.Extending.{extend-none, extend-more}
-use Rattle.hand.proofs.Freeing.{free-none, free-more, free-one-count, chain-freed}
 use Rattle.moves.proofs.Shrinking.{shrink-none, shrink-some, shrink-fits, shrink-count, shrink-free, shrink-ids}
-use Rattle.moves.proofs.Staying.{ready-least, take-frees-at, one-frees-at, one-apart}
+use Rattle.moves.proofs.Staying.{ready-least, one-frees-at, one-apart}
 use Rattle.moves.proofs.Changing.{resized-more, resized-fewer, resize-shrink, resized-fits, written-fits}
+use Rattle.moves.proofs.Editing.{edit-write, edit-resize}
 use Rattle.edits.specs.Roles.{Roles, Once, Separate, fatsHeld, difatsHeld}
-use Rattle.edits.proofs.Listed.{Listed, listed-same, listed-fewer, listed-more, listed-once, listed-separate}
-use Rattle.edits.proofs.Growing.{GrownTo, SameLists, point-lists, linked-lists, take-grown, one-grown}
-use Rattle.edits.proofs.Freed.{one-frees, free-one-lists, free-run-lists}
+use Rattle.edits.proofs.Listed.{Listed, listed-fewer, listed-more, listed-once, listed-separate}
+use Rattle.edits.proofs.Growing.{GrownTo, SameLists, linked-lists, one-grown}
+use Rattle.edits.proofs.Freed.{free-run-lists}
 use Rattle.edits.proofs.Order.{shrink-frees-stay, shrink-freed}
 
 -- roles go by the lists alone
@@ -117,45 +118,6 @@ module _ (S R : ℕ) (c : Chain) (r : Roles S R c) where
       r .frees-difats (c .hand .free - 1) p (omega (arith, e)) l (sym (id-last S (c .hand) e) ∙ sym q))
       (same-or (c .hand .free) 0)
 
--- a chain whose hand is another
-abbrev pub withHand : Chain → Hand → Chain
-withHand c h = record { hand = h; ids = c .ids; count = c .count }
-
--- an entry is set
-pub point-roles : (S R : ℕ) (c : Chain) (i v : ℕ) → i < c .hand .disk .sectors → Roles S R c → Roles S R (withHand c (point S (c .hand) i v))
-unfolding point
-point-roles S R c i v l r =
-    roles-same S R c (withHand c (point S (c .hand) i v))
-    (record {
-      fits = point-fits S R (c .hand) i v (r .fits .fits) l;
-      ids-long = r .fits .ids-long;
-      within = λ j h. rw (point-counts S (c .hand) i v .0) (r .fits .within j h);
-      few = rw (point-counts S (c .hand) i v .0) (r .fits .few);
-    })
-    (point-lists S (c .hand) i v) refl refl refl refl r
-
--- a sector is taken, new or FREE: before it is listed in the chain it has no role
-pub take-roles : (S R m : ℕ) (c : Chain) → FitsMore S R (suc m) c → Roles S R c → Roles S R (withHand c (takeSector S (c .hand)))
-take-roles S R m c f r =
-    let fewer : takeSector S (c .hand) .free ≡ c .hand .free - 1 = take-free S (c .hand) in
-    let stay : (p : ℕ) → p < takeSector S (c .hand) .free → getD (takeSector S (c .hand) .frees) p 0 ≡ getD (c .hand .frees) p 0
-    = λ p l. take-frees-at S (c .hand) p (omega (arith, l, fewer)) in
-    roles-taken S R c (withHand c (takeSector S (c .hand))) (takenId S (c .hand))
-    (record {
-      fits = more-taken f;
-      ids-long = r .fits .ids-long;
-      within = λ j l. omega (arith, r .fits .within j l, take-sectors-grow S (c .hand));
-      few = omega (arith, r .fits .few, fewer, take-sectors-grow S (c .hand));
-    })
-    (record {
-      ids-once = r .apart .ids-once;
-      frees-once = λ i j hi hj e. r .apart .frees-once i j (omega (arith, hi, fewer)) (omega (arith, hj, fewer)) (sym (stay i hi) ∙ e ∙ stay j hj);
-      ids-frees = λ i j hi hj e. r .apart .ids-frees i j hi (omega (arith, hj, fewer)) (e ∙ stay j hj);
-    })
-    r (take-grown S R (c .hand) (r .fits .fits) (more-room f))
-    (listed-same (c .ids) (c .ids) (c .count) (c .count) (takenId S (c .hand)) refl refl)
-    (omega (arith, fewer)) stay (taken-no-fat S R c r) (taken-no-difat S R c r)
-
 -- a sector is taken, linked and listed
 pub one-listed : (S : ℕ) (c : Chain) → c .count < length (c .ids) → Listed (c .ids) (extendOne S c .ids) (c .count) (extendOne S c .count) (takenId S (c .hand))
 unfolding extendOne
@@ -170,50 +132,6 @@ one-roles S R m c f r =
 pub extend-roles : (S R m : ℕ) (c : Chain) → FitsMore S R m c → Roles S R c → Roles S R (extend S c m)
 extend-roles S R zero c f r = rw extend-none r
 extend-roles S R (suc m) c f r = rw extend-more (extend-roles S R m (extendOne S c) (one-fits f) (one-roles S R m c f r))
-
--- the last sector of a chain is freed
-pub free-roles : (S R : ℕ) (c : Chain) (last : ℕ) → c .count ≡ suc last → Roles S R c
-    → Roles S R (record { hand = freeSectorOf S (c .hand) (getD (c .ids) last 0); ids = c .ids; count = last })
-free-roles S R c last k r =
-    let e : Chain = record { hand = freeSectorOf S (c .hand) (getD (c .ids) last 0); ids = c .ids; count = last } in
-    let low : last < c .count = omega (arith, k) in
-    let run : freeRun S (c .hand) (c .ids) last 1 ≡ freeSectorOf S (c .hand) (getD (c .ids) last 0)
-    = free-more S (c .hand) (c .ids) last 0 ∙ free-none S (freeSectorOf S (c .hand) (getD (c .ids) last 0)) (c .ids) (suc last) in
-    let fits : FitsChain S R e = rw (← run) (chain-freed S R last 1 c (r .fits) (omega (arith, k))) in
-    let same : SameLists (c .hand .disk) (e .hand .disk) = free-one-lists S (c .hand) (getD (c .ids) last 0) in
-    let frees : Listed (c .hand .frees) (e .hand .frees) (c .hand .free) (e .hand .free) (getD (c .ids) last 0)
-    = listed-more (c .hand .frees) (e .hand .frees) (c .hand .free) (e .hand .free) (getD (c .ids) last 0) (one-frees S (c .hand) (getD (c .ids) last 0))
-    (free-one-count S (c .hand) (getD (c .ids) last 0))
-    (omega (arith, k, r .fits .few, r .fits .fits .disk .inside, r .fits .fits .frees-long)) in
-    let fats : Listed (c .hand .disk .fats) (e .hand .disk .fats) (fatsHeld S (c .hand .disk)) (fatsHeld S (e .hand .disk)) (c .hand .disk .sectors)
-    = listed-same (c .hand .disk .fats) (e .hand .disk .fats) (fatsHeld S (c .hand .disk)) (fatsHeld S (e .hand .disk)) (c .hand .disk .sectors) (same .fats) (ap (fatCount S) (same .sectors)) in
-    let difats : Listed (c .hand .disk .difats) (e .hand .disk .difats) (difatsHeld S (c .hand .disk)) (difatsHeld S (e .hand .disk)) (c .hand .disk .sectors)
-    = listed-same (c .hand .disk .difats) (e .hand .disk .difats) (difatsHeld S (c .hand .disk)) (difatsHeld S (e .hand .disk)) (c .hand .disk .sectors) (same .difats)
-    (ap (λ (n : ℕ). difatCount S (fatCount S n)) (same .sectors)) in
-    record {
-      fits = fits;
-      apart = record {
-        ids-once = λ i j hi hj q. r .apart .ids-once i j (omega (arith, hi, k)) (omega (arith, hj, k)) q;
-        frees-once = listed-once frees (r .apart .frees-once) (λ p l q. r .apart .ids-frees last p low l (sym q));
-        ids-frees = λ i j hi hj q. ⊎-elim
-            (λ (a : (j < c .hand .free) × (getD (e .hand .frees) j 0 ≡ getD (c .hand .frees) j 0)). r .apart .ids-frees i j (omega (arith, hi, k)) (a .0) (q ∙ a .1))
-            (λ (a : (j ≡ c .hand .free) × (getD (e .hand .frees) j 0 ≡ getD (c .ids) last 0)).
-            let s : i ≡ last = r .apart .ids-once i last (omega (arith, hi, k)) low (q ∙ a .1) in
-            absurd (omega (arith, s, hi)))
-            (frees .at j hj);
-      };
-      fats-once = lists-fats S R c e fits same r;
-      difats-once = lists-difats S R c e fits same r;
-      fats-difats = lists-both S R c e fits same r;
-      ids-fats = rw (same .fats, same .sectors) (λ p q hp hq. r .ids-fats p q (omega (arith, hp, k)) hq);
-      ids-difats = rw (same .difats, same .sectors) (λ p q hp hq. r .ids-difats p q (omega (arith, hp, k)) hq);
-      frees-fats =
-          listed-separate frees fats (r .frees-fats) (λ p l. omega (arith, r .fits .fits .frees-below p l))
-          (λ p l q. r .ids-fats last p low l (sym q)) (omega (arith, r .fits .within last low));
-      frees-difats =
-          listed-separate frees difats (r .frees-difats) (λ p l. omega (arith, r .fits .fits .frees-below p l))
-          (λ p l q. r .ids-difats last p low l (sym q)) (omega (arith, r .fits .within last low));
-    }
 
 -- a chain is cut, and its tail freed
 pub shrink-lists : (S R m : ℕ) (c : Chain) → FitsShrink S R m c → SameLists (c .hand .disk) (shrink S c m .hand .disk)
@@ -314,3 +232,8 @@ unfolding written
 written-roles S R offset buf c f r =
     with-roles S R (extend S c (writeMore S (c .count) offset (length buf))) _ (written-fits S R offset buf c f)
     (extend-roles S R (writeMore S (c .count) offset (length buf)) c (f .fits) r)
+
+-- either, by the edit
+pub edited-roles : (S R : ℕ) (e : Edit) (buf : List ℕ) (c : Chain) → FitsEdit S R e (length buf) c → Roles S R c → Roles S R (edited S c e buf)
+edited-roles S R (Write offset) buf c f r = written-roles S R offset buf c (edit-write S R offset (length buf) c f) r
+edited-roles S R (Resize len) buf c f r = resized-roles S R len c (edit-resize S R len (length buf) c f) r

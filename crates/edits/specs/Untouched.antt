@@ -47,14 +47,6 @@ pub record Unlisted (S : ℕ) (c : Chain) (b : ℕ) : Type 0 where
   pub aside : Aside S (c .hand .disk) b
   pub in-no-id : (p : ℕ) → p < c .count → Beside S (getD (c .ids) p 0) b
 
--- and in none of the header's fields that some change stores
-pub record Untouched (S : ℕ) (c : Chain) (b : ℕ) : Type 0 where
-  -- document 01: header 44, the FAT's count
-  pub fat-field : NotIn (offsetOf fatsAt) (widthOf fatsAt) b
-  -- document 01: header 68 and 72, the DIFAT's first sector and its count, and the list from 76 on, up to 512
-  pub difat-fields : (b < offsetOf difatAt) ⊎ (512 ≤ b)
-  pub unlisted : Unlisted S c b
-
 -- sector i belongs to another: it is neither FAT, DIFAT, one of the chain's nor FREE
 pub record Other (S : ℕ) (c : Chain) (i : ℕ) : Type 0 where
   pub inside : i < c .hand .disk .sectors

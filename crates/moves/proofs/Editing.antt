@@ -25,11 +25,11 @@ use Rattle.moves.proofs.Shrinking.{shrink-none, shrink-fits, shrink-cou
 use Rattle.moves.proofs.Staying.{extend-apart}
 
 -- each kind of edit, as what it is
-edit-write : (S R offset bytes : ℕ) (c : Chain) → FitsEdit S R (Write offset) bytes c → FitsWrite S R offset bytes c
+pub edit-write : (S R offset bytes : ℕ) (c : Chain) → FitsEdit S R (Write offset) bytes c → FitsWrite S R offset bytes c
 unfolding editMore seekOf
 edit-write S R offset bytes c f = record { fits = f .fits; apart = f .apart; seeks = f .seeks }
 
-edit-resize : (S R len bytes : ℕ) (c : Chain) → FitsEdit S R (Resize len) bytes c → FitsResize S R len c
+pub edit-resize : (S R len bytes : ℕ) (c : Chain) → FitsEdit S R (Resize len) bytes c → FitsResize S R len c
 unfolding editMore
 edit-resize S R len bytes c f = record { fits = f .fits; apart = f .apart }
 

@@ -22,36 +22,47 @@ use Rattle.walk.specs.Walk.{lists, walkOf}
 use Rattle.chain.specs.Bytes.{chainBytes}
 use Rattle.hand.specs.Hand.{Chain}
 use Rattle.moves.specs.Change.{idsOf}
+use Rattle.moves.specs.declared.change.Edit.{Edit}
+use Rattle.moves.specs.declared.change.Edit.the-variants.{Write, Resize}
 use Rattle.moves.proofs.Changing.{chain-listed, resized-fits, written-fits}
 use Rattle.edits.specs.Untouched.{Other, Others}
 use Rattle.cfb.specs.Calls.{stateLen, walked, chainIds, outcomeIds}
 use Rattle.cfb.specs.Changes.{chainFrom, stateFrom, tablesIn, startIn}
 use Rattle.cfb.proofs.Refusing.{padded-front}
-use Rattle.promises.specs.Demand.{InHand, Edit, write, resize, free, named, editNo, chainNamed, chainAfter, handOf, after, Call, afterAll, opened, idsFrom, bytesFrom, edited, Elsewhere, Another, Promised}
+use Rattle.promises.specs.Demand.{InHand, Asked, write, free, askedNo, chainNamed, chainAfter, handOf, after, Call, afterAll, opened, idsFrom, bytesFrom, bytesAfter, Elsewhere, Another, Promised}
 use Rattle.promises.specs.Whole.{fatHeld}
 use Rattle.promises.proofs.After.{AgreesAfter, resize-agrees, resize-strict, resize-len, write-agrees, write-strict, write-len}
-use Rattle.promises.proofs.Calls.{Walks, resize-rows, resize-fits, resize-walks, resize-edits, resize-keeps, write-rows, write-fits, write-walks, write-edits, write-keeps}
+use Rattle.promises.proofs.Calls.{Walks, edit-rows, resize-fits, resize-walks, resize-edits, resize-keeps, write-fits, write-walks, write-edits, write-keeps}
 use Rattle.promises.proofs.Naming.{first-named, resize-stays, resize-gone, write-stays, write-longer}
 use Rattle.promises.proofs.Others.{Absent, resize-others-walk, resize-others-bytes, write-others-walk, write-others-bytes}
 use Rattle.promises.proofs.Kept.{Sure, sure-fresh, opened-sure}
 
 -- what is known of an accepted call that leaves the chain c in hand, whose bytes were to become xs
-pub record Done (h : InHand) (room : ℕ) (e : Edit) (c : Chain) (xs : List ℕ) : Type 0 where
+pub record Done (h : InHand) (room : ℕ) (ask : Asked) (c : Chain) (xs : List ℕ) : Type 0 where
   pub strict : stateFrom (h .state) c .mode ≡ Strict
   pub agrees : AgreesAfter (h .state) c
   pub len : lengthOf (headerOf (c .hand .disk .image) .version) ≡ stateLen (h .state)
   pub walks : Walks c
   pub count : length (idsOf c) ≡ c .count
-  pub first : 0 < length (idsFrom h (named e)) → getD (idsFrom h (named e)) 0 0 ≡ named e
-  pub stays : (p : ℕ) → p < length (idsFrom h (named e)) → p < c .count → getD (c .ids) p 0 ≡ getD (idsFrom h (named e)) p 0
-  pub gone : (p : ℕ) → p < length (idsFrom h (named e)) → c .count ≤ p → getD (c .hand .disk .fat) (getD (idsFrom h (named e)) p 0) 0 ≡ freeSector
+  pub first : 0 < length (idsFrom h (ask .start)) → getD (idsFrom h (ask .start)) 0 0 ≡ ask .start
+  pub stays : (p : ℕ) → p < length (idsFrom h (ask .start)) → p < c .count → getD (c .ids) p 0 ≡ getD (idsFrom h (ask .start)) p 0
+  pub gone : (p : ℕ) → p < length (idsFrom h (ask .start)) → c .count ≤ p → getD (c .hand .disk .fat) (getD (idsFrom h (ask .start)) p 0) 0 ≡ freeSector
   pub bytes : chainBytes (stateLen (h .state)) (c .hand .disk .image) (idsOf c) ≡ xs
-  pub keeps : (others : List ℕ) → Others (stateLen (h .state)) (chainNamed h room e) others
+  pub keeps : (others : List ℕ) → Others (stateLen (h .state)) (chainNamed h room ask) others
       → chainBytes (stateLen (h .state)) (c .hand .disk .image) others ≡ chainBytes (stateLen (h .state)) (h .image) others
-  pub others : (x : ℕ) (ids : List ℕ) → Absent (idsFrom h (named e)) x → walkOf (take (h .state .sectors) (h .tables .fat)) x ≡ lists ids
+  pub others : (x : ℕ) (ids : List ℕ) → Absent (idsFrom h (ask .start)) x → walkOf (take (h .state .sectors) (h .tables .fat)) x ≡ lists ids
       → walkOf (fatHeld (c .hand .disk)) x ≡ lists ids
-  pub others-bytes : (x : ℕ) (ids : List ℕ) → Absent (idsFrom h (named e)) x → walkOf (take (h .state .sectors) (h .tables .fat)) x ≡ lists ids
+  pub others-bytes : (x : ℕ) (ids : List ℕ) → Absent (idsFrom h (ask .start)) x → walkOf (take (h .state .sectors) (h .tables .fat)) x ≡ lists ids
       → chainBytes (stateLen (h .state)) (c .hand .disk .image) ids ≡ chainBytes (stateLen (h .state)) (h .image) ids
+
+-- and where they become what the demand says of what was asked for
+abbrev DoneAsked : InHand → ℕ → Asked → Type 0
+DoneAsked h room ask =
+    Done h room ask (chainAfter h room ask) (bytesAfter (stateLen (h .state)) (ask .edit) (ask .buf) (bytesFrom h (ask .start)) (length (idsFrom h (ask .start))))
+
+-- what is asked for, by its parts
+abbrev asked : ℕ → Edit → List ℕ → Asked
+asked start e buf = record { start = start; edit = e; buf = buf }
 
 -- bytes of a chain by equal parts, and those of one sector
 bytes-own : (S S' : ℕ) (img img' ids ids' : List ℕ) → S ≡ S' → img ≡ img' → ids ≡ ids' → chainBytes S img ids ≡ chainBytes S' img' ids'
@@ -65,7 +76,7 @@ one-each : (P : ℕ → Type 0) (i : ℕ) → P i → (j : ℕ) → j < length (
 one-each P i p zero l = p
 one-each P i p (suc j) l = absurd (omega (arith, l))
 
-module _ (h : InHand) (room : ℕ) (e : Edit) (c : Chain) (xs : List ℕ) (d : Done h room e c xs) where
+module _ (h : InHand) (room : ℕ) (ask : Asked) (c : Chain) (xs : List ℕ) (d : Done h room ask c xs) where
   done-sure : Sure (handOf (h .state) c)
   unfolding handOf
   done-sure = record { strict = d .strict; agrees = d .agrees }
@@ -90,52 +101,51 @@ module _ (h : InHand) (room : ℕ) (e : Edit) (c : Chain) (xs : List ℕ) (d : D
   done-bytes : bytesFrom (handOf (h .state) c) (startIn (c .ids) (c .count)) ≡ xs
   done-bytes = bytes-own _ _ _ _ _ _ done-len done-image done-ids ∙ d .bytes
 
-  done-start : 0 < length (idsFrom h (named e)) → 0 < length (idsFrom (handOf (h .state) c) (startIn (c .ids) (c .count))) → startIn (c .ids) (c .count) ≡ named e
+  done-start : 0 < length (idsFrom h (ask .start)) → 0 < length (idsFrom (handOf (h .state) c) (startIn (c .ids) (c .count))) → startIn (c .ids) (c .count) ≡ ask .start
   unfolding startIn
   done-start a b =
       let l : 0 < c .count = omega (arith, b, ap (λ (xs : List ℕ). length xs) done-ids, d .count) in
       rw (ne-eqb (c .count) 0 (omega (arith, l))) (d .stays 0 a l ∙ d .first a)
 
-  done-same : (p : ℕ) → p < length (idsFrom h (named e)) → p < length (idsFrom (handOf (h .state) c) (startIn (c .ids) (c .count)))
-      → getD (idsFrom (handOf (h .state) c) (startIn (c .ids) (c .count))) p 0 ≡ getD (idsFrom h (named e)) p 0
+  done-same : (p : ℕ) → p < length (idsFrom h (ask .start)) → p < length (idsFrom (handOf (h .state) c) (startIn (c .ids) (c .count)))
+      → getD (idsFrom (handOf (h .state) c) (startIn (c .ids) (c .count))) p 0 ≡ getD (idsFrom h (ask .start)) p 0
   unfolding idsOf
   done-same p a b =
       let l : p < c .count = omega (arith, b, ap (λ (xs : List ℕ). length xs) done-ids, d .count) in
       ap (λ (xs : List ℕ). getD xs p 0) done-ids ∙ getD-take (c .count) (c .ids) p 0 l ∙ d .stays p a l
 
-  done-gone : (p : ℕ) → p < length (idsFrom h (named e)) → length (idsFrom (handOf (h .state) c) (startIn (c .ids) (c .count))) ≤ p
-      → getD (handOf (h .state) c .tables .fat) (getD (idsFrom h (named e)) p 0) 0 ≡ freeSector
+  done-gone : (p : ℕ) → p < length (idsFrom h (ask .start)) → length (idsFrom (handOf (h .state) c) (startIn (c .ids) (c .count))) ≤ p
+      → getD (handOf (h .state) c .tables .fat) (getD (idsFrom h (ask .start)) p 0) 0 ≡ freeSector
   unfolding handOf tablesIn
   done-gone p a b = d .gone p a (omega (arith, b, ap (λ (xs : List ℕ). length xs) done-ids, d .count))
 
-  done-others : (x : ℕ) (ids : List ℕ) → Another h e x ids → walked (handOf (h .state) c .state) (handOf (h .state) c .tables) x ≡ lists ids
+  done-others : (x : ℕ) (ids : List ℕ) → Another h ask x ids → walked (handOf (h .state) c .state) (handOf (h .state) c .tables) x ≡ lists ids
   unfolding walked
   done-others x ids a = done-walked x ∙ d .others x ids (a .apart) (a .walks)
 
-  done-others-bytes : (x : ℕ) (ids : List ℕ) → Another h e x ids → chainBytes (stateLen (h .state)) (handOf (h .state) c .image) ids ≡ chainBytes (stateLen (h .state)) (h .image) ids
+  done-others-bytes : (x : ℕ) (ids : List ℕ) → Another h ask x ids → chainBytes (stateLen (h .state)) (handOf (h .state) c .image) ids ≡ chainBytes (stateLen (h .state)) (h .image) ids
   unfolding walked handOf
   done-others-bytes x ids a = d .others-bytes x ids (a .apart) (a .walks)
 
-  other-one : (i : ℕ) → Elsewhere h room e i → Other (stateLen (h .state)) (chainNamed h room e) i
+  other-one : (i : ℕ) → Elsewhere h room ask i → Other (stateLen (h .state)) (chainNamed h room ask) i
   unfolding chainFrom
   other-one i w = record {
     inside = w .inside;
     no-fat = w .not-fat;
     no-difat = w .not-difat;
-    no-id = λ p l q. w .not-named p l (sym (padded-front (idsFrom h (named e)) room p l) ∙ q);
+    no-id = λ p l q. w .not-named p l (sym (padded-front (idsFrom h (ask .start)) room p l) ∙ q);
     no-free = w .not-free;
   }
 
-  done-elsewhere : (i : ℕ) → Elsewhere h room e i → sectorOf (stateLen (h .state)) (handOf (h .state) c .image) i ≡ sectorOf (stateLen (h .state)) (h .image) i
+  done-elsewhere : (i : ℕ) → Elsewhere h room ask i → sectorOf (stateLen (h .state)) (handOf (h .state) c .image) i ≡ sectorOf (stateLen (h .state)) (h .image) i
   done-elsewhere i w =
       ap (λ (img : List ℕ). sectorOf (stateLen (h .state)) img i) done-image
       ∙ sym (bytes-one (stateLen (h .state)) (c .hand .disk .image) i)
-      ∙ d .keeps (i ∷ []) (record { each = one-each (Other (stateLen (h .state)) (chainNamed h room e)) i (other-one i w) })
+      ∙ d .keeps (i ∷ []) (record { each = one-each (Other (stateLen (h .state)) (chainNamed h room ask)) i (other-one i w) })
       ∙ bytes-one (stateLen (h .state)) (h .image) i
 
--- the three edits, accepted
-write-done : (h : InHand) (room start offset : ℕ) (buf : List ℕ) → editNo h room (write start offset buf) ≡ 0
-    → Done h room (write start offset buf) (chainAfter h room (write start offset buf)) (edited (stateLen (h .state)) (write start offset buf) (bytesFrom h start) (length (idsFrom h start)))
+-- the two edits, accepted
+write-done : (h : InHand) (room start offset : ℕ) (buf : List ℕ) → askedNo h room (write start offset buf) ≡ 0 → DoneAsked h room (write start offset buf)
 write-done h room start offset buf z =
     record {
       strict = write-strict (h .state) (h .image) (h .tables) room start offset buf z;
@@ -143,7 +153,7 @@ write-done h room start offset buf z =
       len = write-len (h .state) (h .image) (h .tables) room start offset buf z;
       walks = write-walks (h .state) (h .image) (h .tables) room start offset buf z;
       count = chain-listed (stateLen (h .state)) _ _ (written-fits (stateLen (h .state)) _ offset buf _ (write-fits (h .state) (h .image) (h .tables) room start offset buf z));
-      first = first-named (h .state) (h .image) (h .tables) room start (write-rows (h .state) (h .image) (h .tables) room start offset buf z .0);
+      first = first-named (h .state) (h .image) (h .tables) room start (edit-rows (h .state) (h .image) (h .tables) room start (Write offset) (length buf) z);
       stays = λ p a b. write-stays (h .state) (h .image) (h .tables) room start offset buf z p a;
       gone = λ p a b. absurd (omega (arith, a, b, write-longer (h .state) (h .image) (h .tables) room start offset buf z));
       bytes = write-edits (h .state) (h .image) (h .tables) room start offset buf z;
@@ -152,16 +162,15 @@ write-done h room start offset buf z =
       others-bytes = write-others-bytes (h .state) (h .image) (h .tables) room start offset buf z;
     }
 
-resize-done : (h : InHand) (room start len : ℕ) → editNo h room (resize start len) ≡ 0
-    → Done h room (resize start len) (chainAfter h room (resize start len)) (edited (stateLen (h .state)) (resize start len) (bytesFrom h start) (length (idsFrom h start)))
-resize-done h room start len z =
+resize-done : (h : InHand) (room start len : ℕ) (buf : List ℕ) → askedNo h room (asked start (Resize len) buf) ≡ 0 → DoneAsked h room (asked start (Resize len) buf)
+resize-done h room start len buf z =
     record {
       strict = resize-strict (h .state) (h .image) (h .tables) room start len z;
       agrees = resize-agrees (h .state) (h .image) (h .tables) room start len z;
       len = resize-len (h .state) (h .image) (h .tables) room start len z;
       walks = resize-walks (h .state) (h .image) (h .tables) room start len z;
       count = chain-listed (stateLen (h .state)) _ _ (resized-fits (stateLen (h .state)) _ len _ (resize-fits (h .state) (h .image) (h .tables) room start len z));
-      first = first-named (h .state) (h .image) (h .tables) room start (resize-rows (h .state) (h .image) (h .tables) room start len z .0);
+      first = first-named (h .state) (h .image) (h .tables) room start (edit-rows (h .state) (h .image) (h .tables) room start (Resize len) 0 z);
       stays = resize-stays (h .state) (h .image) (h .tables) room start len z;
       gone = resize-gone (h .state) (h .image) (h .tables) room start len z;
       bytes = resize-edits (h .state) (h .image) (h .tables) room start len z;
@@ -170,76 +179,74 @@ resize-done h room start len z =
       others-bytes = resize-others-bytes (h .state) (h .image) (h .tables) room start len z;
     }
 
--- a free is a resize to no byte
+edit-done : (h : InHand) (room start : ℕ) (e : Edit) (buf : List ℕ) → askedNo h room (asked start e buf) ≡ 0 → DoneAsked h room (asked start e buf)
+edit-done h room start (Write offset) buf z = write-done h room start offset buf z
+edit-done h room start (Resize len) buf z = resize-done h room start len buf z
+
+-- an accepted call
+asked-done : (h : InHand) (room : ℕ) (ask : Asked) → askedNo h room ask ≡ 0 → DoneAsked h room ask
+asked-done h room ask z = edit-done h room (ask .start) (ask .edit) (ask .buf) z
+
+-- document 01, Free: a resize to no byte leaves none
 no-byte : (v : Version) → padded [] (lengthOf v * ceil 0 (lengthOf v)) ≡ []
 unfolding padded ceil
 no-byte V3 = refl
 no-byte V4 = refl
 
-free-done : (h : InHand) (room start : ℕ) → editNo h room (free start) ≡ 0
-    → Done h room (free start) (chainAfter h room (free start)) (edited (stateLen (h .state)) (free start) (bytesFrom h start) (length (idsFrom h start)))
-free-done h room start z =
-    let d = resize-done h room start 0 z in
-    record { strict = d .strict; agrees = d .agrees; len = d .len; walks = d .walks; count = d .count; first = d .first; stays = d .stays; gone = d .gone; bytes = d .bytes ∙ no-byte (h .state .header .version); keeps = d .keeps; others = d .others; others-bytes = d .others-bytes }
-
--- an accepted edit
-edit-done : (h : InHand) (room : ℕ) (e : Edit) → editNo h room e ≡ 0
-    → Done h room e (chainAfter h room e) (edited (stateLen (h .state)) e (bytesFrom h (named e)) (length (idsFrom h (named e))))
-edit-done h room (write start offset buf) z = write-done h room start offset buf z
-edit-done h room (resize start len) z = resize-done h room start len z
-edit-done h room (free start) z = free-done h room start z
+pub free-leaves-none : (h : InHand) (start : ℕ) (old : List ℕ) (count : ℕ) → bytesAfter (stateLen (h .state)) (free start .edit) (free start .buf) old count ≡ []
+free-leaves-none h start old count = no-byte (h .state .header .version)
 
 -- a call is accepted, or it leaves what is in hand
-after-accepted : (h : InHand) (room : ℕ) (e : Edit) → editNo h room e ≡ 0 → after h room e ≡ handOf (h .state) (chainAfter h room e)
+after-accepted : (h : InHand) (room : ℕ) (ask : Asked) → askedNo h room ask ≡ 0 → after h room ask ≡ handOf (h .state) (chainAfter h room ask)
 unfolding after
-after-accepted h room e z = rw (eq-eqb _ _ z)
+after-accepted h room ask z = rw (eq-eqb _ _ z)
 
-after-refused : (h : InHand) (room : ℕ) (e : Edit) → editNo h room e ≢ 0 → after h room e ≡ h
+after-refused : (h : InHand) (room : ℕ) (ask : Asked) → askedNo h room ask ≢ 0 → after h room ask ≡ h
 unfolding after
-after-refused h room e z = rw (ne-eqb _ _ z)
+after-refused h room ask z = rw (ne-eqb _ _ z)
 
 -- what agreed agrees after a call
-after-sure : (h : InHand) (room : ℕ) (e : Edit) → Sure h → Sure (after h room e)
-after-sure h room e s =
+after-sure : (h : InHand) (room : ℕ) (ask : Asked) → Sure h → Sure (after h room ask)
+after-sure h room ask s =
     ⊎-elim
-    (λ (z : editNo h room e ≡ 0). rw (after-accepted h room e z) (done-sure h room e _ _ (edit-done h room e z)))
-    (λ (d : editNo h room e ≢ 0). rw (after-refused h room e d) s)
-    (same-or (editNo h room e) 0)
+    (λ (z : askedNo h room ask ≡ 0). rw (after-accepted h room ask z) (done-sure h room ask _ _ (asked-done h room ask z)))
+    (λ (d : askedNo h room ask ≢ 0). rw (after-refused h room ask d) s)
+    (same-or (askedNo h room ask) 0)
 
 -- and after any list of them
 all-sure : (cs : List Call) (h : InHand) → Sure h → Sure (afterAll h cs)
 unfolding afterAll
 all-sure [] h s = s
-all-sure (c ∷ cs) h s = all-sure cs (after h (c .room) (c .edit)) (after-sure h (c .room) (c .edit) s)
+all-sure (c ∷ cs) h s = all-sure cs (after h (c .room) (c .asks)) (after-sure h (c .room) (c .asks) s)
 
 -- the clauses about one call, of what agrees
-call-promised : (h : InHand) (room : ℕ) (e : Edit) → Sure h → Promised h room e (after h room e)
-call-promised h room e s =
+call-promised : (h : InHand) (room : ℕ) (ask : Asked) → Sure h → Promised h room ask (after h room ask)
+call-promised h room ask s =
     record {
-      fresh = sure-fresh (after h room e) (after-sure h room e s);
-      exactly = λ z. rw (after-accepted h room e z) (done-bytes h room e _ _ (edit-done h room e z));
-      start = λ z. rw (after-accepted h room e z) (done-start h room e _ _ (edit-done h room e z));
-      same = λ z. rw (after-accepted h room e z) (done-same h room e _ _ (edit-done h room e z));
-      gone = λ z. rw (after-accepted h room e z) (done-gone h room e _ _ (edit-done h room e z));
-      refused = after-refused h room e;
+      fresh = sure-fresh (after h room ask) (after-sure h room ask s);
+      exactly = λ z. rw (after-accepted h room ask z) (done-bytes h room ask _ _ (asked-done h room ask z));
+      start = λ z. rw (after-accepted h room ask z) (done-start h room ask _ _ (asked-done h room ask z));
+      same = λ z. rw (after-accepted h room ask z) (done-same h room ask _ _ (asked-done h room ask z));
+      gone = λ z. rw (after-accepted h room ask z) (done-gone h room ask _ _ (asked-done h room ask z));
+      refused = after-refused h room ask;
       elsewhere = λ i w.
           ⊎-elim
-          (λ (z : editNo h room e ≡ 0). rw (after-accepted h room e z) (done-elsewhere h room e _ _ (edit-done h room e z) i w))
-          (λ (d : editNo h room e ≢ 0). rw (after-refused h room e d))
-          (same-or (editNo h room e) 0);
+          (λ (z : askedNo h room ask ≡ 0). rw (after-accepted h room ask z) (done-elsewhere h room ask _ _ (asked-done h room ask z) i w))
+          (λ (d : askedNo h room ask ≢ 0). rw (after-refused h room ask d))
+          (same-or (askedNo h room ask) 0);
       others = λ x ids a.
           ⊎-elim
-          (λ (z : editNo h room e ≡ 0). rw (after-accepted h room e z) (done-others h room e _ _ (edit-done h room e z) x ids a))
-          (λ (d : editNo h room e ≢ 0). rw (after-refused h room e d) (a .walks))
-          (same-or (editNo h room e) 0);
+          (λ (z : askedNo h room ask ≡ 0). rw (after-accepted h room ask z) (done-others h room ask _ _ (asked-done h room ask z) x ids a))
+          (λ (d : askedNo h room ask ≢ 0). rw (after-refused h room ask d) (a .walks))
+          (same-or (askedNo h room ask) 0);
       others-bytes = λ x ids a.
           ⊎-elim
-          (λ (z : editNo h room e ≡ 0). rw (after-accepted h room e z) (done-others-bytes h room e _ _ (edit-done h room e z) x ids a))
-          (λ (d : editNo h room e ≢ 0). rw (after-refused h room e d))
-          (same-or (editNo h room e) 0);
+          (λ (z : askedNo h room ask ≡ 0). rw (after-accepted h room ask z) (done-others-bytes h room ask _ _ (asked-done h room ask z) x ids a))
+          (λ (d : askedNo h room ask ≢ 0). rw (after-refused h room ask d))
+          (same-or (askedNo h room ask) 0);
     }
 
 -- The third demand: of an image that opened strictly, after any list of calls, the next call does what is promised of each. The list may be empty, so that it holds of the first call too, and so of every one in a list.
-pub demand-three : (img : List ℕ) (used : ℕ) (t : Tables) → openNo Strict img used (shortest t) ≡ 0 → (cs : List Call) (room : ℕ) (e : Edit)
-    → Promised (afterAll (opened img used t) cs) room e (after (afterAll (opened img used t) cs) room e)
-demand-three img used t z cs room e = call-promised (afterAll (opened img used t) cs) room e (all-sure cs (opened img used t) (opened-sure img used t z))
+pub demand-three : (img : List ℕ) (used : ℕ) (t : Tables) → openNo Strict img used (shortest t) ≡ 0 → (cs : List Call) (room : ℕ) (ask : Asked)
+    → Promised (afterAll (opened img used t) cs) room ask (after (afterAll (opened img used t) cs) room ask)
+demand-three img used t z cs room ask = call-promised (afterAll (opened img used t) cs) room ask (all-sure cs (opened img used t) (opened-sure img used t z))

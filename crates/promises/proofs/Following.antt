@@ -9,13 +9,13 @@ use Rattle.lists.specs.Lists.{choose}
 use Rattle.header.specs.declared.Validation.the-variants.{Strict}
 use Rattle.alloc.specs.Opening.{Tables, openNo, shortest}
 use Rattle.hand.specs.Hand.{Chain}
-use Rattle.cfb.specs.Changes.{stateFrom, tablesIn, Changes, ChainWrites, ChainResizes}
+use Rattle.cfb.specs.Changes.{stateFrom, tablesIn, Changes, ChainEdits}
 use Rattle.alloc.specs.Opened.{tablesLeft}
 use Rattle.cfb.specs.Face.{tablesOf, stateOf, Opens}
 use Rattle.cfb.specs.declared.State.{State}
 use Rattle.cfb.specs.declared.Called.{Called}
 use Rattle.cfb.specs.declared.Opened.{Opened}
-use Rattle.promises.specs.Demand.{InHand, write, resize, free, handOf, after, opened}
+use Rattle.promises.specs.Demand.{InHand, Asked, handOf, after, opened}
 
 -- what is in hand, by its parts
 abbrev pub hand : State → List ℕ → Tables → InHand
@@ -35,23 +35,11 @@ unfolding handOf
 changes-follow s img t ids k c bytes r img' t' ids' w =
     hand-same _ _ _ _ _ _ (w .state) (w .image) (w .tables) ∙ chosen (eqb k 0) (stateFrom s c) s (c .hand .disk .image) img (tablesIn c) t
 
--- document 01, Write: the contract of State::write leaves in hand what `after` says of a write,
-pub write-follows : (s : State) (img : List ℕ) (t : Tables) (ids : List ℕ) (start offset : ℕ) (buf : List ℕ) (r : Called) (img' : List ℕ) (t' : Tables) (ids' : List ℕ)
-    → ChainWrites s img t ids start offset buf r img' t' ids' → hand (r .state) img' t' ≡ after (hand s img t) (length ids) (write start offset buf)
+-- document 01, Write, Resize and Free: the contract of State::change leaves in hand what `after` says; those of State::write, State::resize and State::free are its own at a write, at a resize and at a resize to 0
+pub edit-follows : (s : State) (img : List ℕ) (t : Tables) (ids : List ℕ) (ask : Asked) (r : Called) (img' : List ℕ) (t' : Tables) (ids' : List ℕ)
+    → ChainEdits s img t ids (ask .start) (ask .edit) (ask .buf) r img' t' ids' → hand (r .state) img' t' ≡ after (hand s img t) (length ids) ask
 unfolding after
-write-follows s img t ids start offset buf r img' t' ids' w = changes-follow s img t ids _ _ _ r img' t' ids' w
-
--- Resize: that of State::resize, of a resize,
-pub resize-follows : (s : State) (img : List ℕ) (t : Tables) (ids : List ℕ) (start len : ℕ) (r : Called) (img' : List ℕ) (t' : Tables) (ids' : List ℕ)
-    → ChainResizes s img t ids start len r img' t' ids' → hand (r .state) img' t' ≡ after (hand s img t) (length ids) (resize start len)
-unfolding after
-resize-follows s img t ids start len r img' t' ids' w = changes-follow s img t ids _ _ _ r img' t' ids' w
-
--- Free: and that of State::free, which is its resize to 0, of a free
-pub free-follows : (s : State) (img : List ℕ) (t : Tables) (ids : List ℕ) (start : ℕ) (r : Called) (img' : List ℕ) (t' : Tables) (ids' : List ℕ)
-    → ChainResizes s img t ids start 0 r img' t' ids' → hand (r .state) img' t' ≡ after (hand s img t) (length ids) (free start)
-unfolding after
-free-follows s img t ids start r img' t' ids' w = changes-follow s img t ids _ _ _ r img' t' ids' w
+edit-follows s img t ids ask r img' t' ids' w = changes-follow s img t ids _ _ _ r img' t' ids' w
 
 -- Opening an image: the contract of State::open leaves in hand what `opened` says, where a strict opening accepts
 pub open-follows : (img : List ℕ) (used : ℕ) (t : Tables) (r : Opened) (img' : List ℕ) (t' : Tables) → Opens Strict img used t r img' t' → openNo Strict img used (shortest t) ≡ 0

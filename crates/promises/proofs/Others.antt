@@ -25,13 +25,14 @@ use Rattle.moves.proofs.Shrinking.{shrink-none, shrink-some, shrink-sectors}
 use Rattle.moves.proofs.Staying.{ready-least, one-frees-at, one-ids-at, one-ids-last}
 use Rattle.moves.proofs.Changing.{resized-more, resized-fewer, resize-shrink, resized-fits, written-fits}
 use Rattle.edits.specs.Untouched.{Others}
+use Rattle.moves.specs.declared.change.Edit.the-variants.{Write, Resize}
 use Rattle.cfb.specs.Calls.{stateLen, chainIds}
 use Rattle.cfb.specs.Changes.{changeNo, resizeNo, writeNo, chainFrom}
 use Rattle.cfb.specs.declared.State.{State}
 use Rattle.cfb.proofs.Refusing.{padded-front}
 use Rattle.promises.specs.Whole.{Formed, Held, fatHeld}
 use Rattle.promises.proofs.Base.{roles-of}
-use Rattle.promises.proofs.Calls.{resize-rows, resize-fits, resize-keeps, write-rows, write-fits, write-keeps}
+use Rattle.promises.proofs.Calls.{edit-rows, resize-fits, resize-keeps, write-fits, write-keeps}
 use Rattle.promises.proofs.Entries.{point-others, free-run-others, take-taken}
 use Rattle.promises.proofs.Graph.{held-strung, held-length}
 use Rattle.promises.proofs.Parts.{Listings, formed-listings}
@@ -261,19 +262,19 @@ module _ (s : State) (img : List ℕ) (t : Tables) (room start : ℕ) where
         → getD (resized (stateLen s) before len .hand .disk .fat) x 0 ≡ getD (t .fat) x 0
     unfolding chainFrom
     resize-entries x l d a =
-        resized-spares (stateLen s) R len before (resize-fits s img t room start len z) .stays x (aloof-before (resize-rows s img t room start len z .0) x l d a)
+        resized-spares (stateLen s) R len before (resize-fits s img t room start len z) .stays x (aloof-before (edit-rows s img t room start (Resize len) 0 z) x l d a)
 
     -- document 01, Resize: a walk that begins outside the chain lists the same sectors then, in the same order,
     pub resize-others-walk : (x : ℕ) (ys : List ℕ) → Absent (chainIds s t start) x → walkOf (take (s .sectors) (t .fat)) x ≡ lists ys
         → walkOf (fatHeld (resized (stateLen s) before len .hand .disk)) x ≡ lists ys
     resize-others-walk x ys a walk =
-        walk-then (resize-rows s img t room start len z .0) x ys a walk (resized (stateLen s) before len)
+        walk-then (edit-rows s img t room start (Resize len) 0 z) x ys a walk (resized (stateLen s) before len)
         (resized-fits (stateLen s) R len before (resize-fits s img t room start len z)) (resized-spares (stateLen s) R len before (resize-fits s img t room start len z))
 
     -- and they have the same bytes
     pub resize-others-bytes : (x : ℕ) (ys : List ℕ) → Absent (chainIds s t start) x → walkOf (take (s .sectors) (t .fat)) x ≡ lists ys
         → chainBytes (stateLen s) (resized (stateLen s) before len .hand .disk .image) ys ≡ chainBytes (stateLen s) img ys
-    resize-others-bytes x ys a walk = resize-keeps s img t room start len z ys (others-before (resize-rows s img t room start len z .0) x ys a walk)
+    resize-others-bytes x ys a walk = resize-keeps s img t room start len z ys (others-before (edit-rows s img t room start (Resize len) 0 z) x ys a walk)
 
   -- an accepted write
   module _ (offset : ℕ) (buf : List ℕ) (z : writeNo s img t room start offset (length buf) ≡ 0) where
@@ -283,17 +284,17 @@ module _ (s : State) (img : List ℕ) (t : Tables) (room start : ℕ) where
     unfolding chainFrom
     write-entries x l d a =
         written-spares (stateLen s) R offset buf before (write-fits s img t room start offset buf z) .stays x
-        (aloof-before (write-rows s img t room start offset buf z .0) x l d a)
+        (aloof-before (edit-rows s img t room start (Write offset) (length buf) z) x l d a)
 
     -- document 01, Write: a walk that begins outside the chain lists the same sectors then, in the same order,
     pub write-others-walk : (x : ℕ) (ys : List ℕ) → Absent (chainIds s t start) x → walkOf (take (s .sectors) (t .fat)) x ≡ lists ys
         → walkOf (fatHeld (written (stateLen s) before offset buf .hand .disk)) x ≡ lists ys
     write-others-walk x ys a walk =
-        walk-then (write-rows s img t room start offset buf z .0) x ys a walk (written (stateLen s) before offset buf)
+        walk-then (edit-rows s img t room start (Write offset) (length buf) z) x ys a walk (written (stateLen s) before offset buf)
         (written-fits (stateLen s) R offset buf before (write-fits s img t room start offset buf z))
         (written-spares (stateLen s) R offset buf before (write-fits s img t room start offset buf z))
 
     -- and they have the same bytes
     pub write-others-bytes : (x : ℕ) (ys : List ℕ) → Absent (chainIds s t start) x → walkOf (take (s .sectors) (t .fat)) x ≡ lists ys
         → chainBytes (stateLen s) (written (stateLen s) before offset buf .hand .disk .image) ys ≡ chainBytes (stateLen s) img ys
-    write-others-bytes x ys a walk = write-keeps s img t room start offset buf z ys (others-before (write-rows s img t room start offset buf z .0) x ys a walk)
+    write-others-bytes x ys a walk = write-keeps s img t room start offset buf z ys (others-before (edit-rows s img t room start (Write offset) (length buf) z) x ys a walk)

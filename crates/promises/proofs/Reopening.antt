@@ -249,9 +249,6 @@ module _ (m : Validation) (img : List ℕ) (used free : ℕ) (t : Tables) where
   abbrev own : ℕ
   own = sectorsIn ownLen used
 
-  abbrev ownTables : Tables
-  ownTables = openTables ownLen img (headerOf img) own
-
   module _ (a : Agrees m img used own free (headerOf img) t) where
     firsts : refusal (firstRows m img used (shortest t)) ≡ 0
     firsts = parts m img used (shortest t) (a .opens) .0

@@ -1,5 +1,5 @@
 -- A change that nothing before 23 stands against has well-formed tables and a held chain in hand; the ids of a held chain are the walk from its start. Assumes nothing.
-use Prim.Native.Nat.{ℕ, _-_, _<_}
+use Prim.Native.Nat.{ℕ, _<_}
 use mathlib.Core.Path.{_≡_, refl, _∙_, sym, ap}
 use mathlib.Core.Bool.{not, false}
 use mathlib.Core.List.{List}
