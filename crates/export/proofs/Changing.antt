@@ -24,7 +24,7 @@ pub held-number : (words : List ℕ) (k : ℕ) → holds words ≡ true → k �
 unfolding heldNo
 held-number words k h = rw h
 
-unheld-number : (words : List ℕ) (k : ℕ) → holds words ≡ false → 19 ≡ heldNo words k
+pub unheld-number : (words : List ℕ) (k : ℕ) → holds words ≡ false → 19 ≡ heldNo words k
 unfolding heldNo
 unheld-number words k h = rw h
 

@@ -14,24 +14,8 @@ use Rattle.cfb.specs.declared.Called.{Called}
 use Rattle.states.specs.States.{holds, heldIn}
 use Rattle.states.specs.Answers.{answerWords, given}
 use Rattle.states.proofs.Telling.{number-of, words-of, zeros-given}
+use Rattle.export.proofs.Changing.{held-number, unheld-number}
 use Rattle.export.specs.Chains.{chainGiven, readGiven, OpenChainGives, ReadChainGives}
-
--- the number of a call on words that hold a state, and on words that hold none
-chain-held : (words img : List ℕ) (t : Tables) (room start : ℕ) → holds words ≡ true → chainNo (heldIn words) img t room start ≡ chainGiven words img t room start
-unfolding chainGiven
-chain-held words img t room start h = rw h
-
-chain-unheld : (words img : List ℕ) (t : Tables) (room start : ℕ) → holds words ≡ false → 19 ≡ chainGiven words img t room start
-unfolding chainGiven
-chain-unheld words img t room start h = rw h
-
-read-held : (words img : List ℕ) (t : Tables) (room start offset : ℕ) → holds words ≡ true → readNo (heldIn words) img t room start offset ≡ readGiven words img t room start offset
-unfolding readGiven
-read-held words img t room start offset h = rw h
-
-read-unheld : (words img : List ℕ) (t : Tables) (room start offset : ℕ) → holds words ≡ false → 19 ≡ readGiven words img t room start offset
-unfolding readGiven
-read-unheld words img t room start offset h = rw h
 
 -- 19 leaves the id list zero
 zeros-left : (ids xs : List ℕ) → replicate (length ids) 0 ≡ idsLeft 19 ids xs
@@ -44,8 +28,9 @@ module _ (words img : List ℕ) (t : Tables) (ids : List ℕ) (start : ℕ) (ids
   unheld = sym h ∙ none
 
   pub open-refused : OpenChainGives words img t ids start 19 (0 ∷ 0 ∷ 0 ∷ []) words img t ids'
+  unfolding chainGiven
   open-refused =
-      let k : 19 ≡ chainGiven words img t (length ids) start = chain-unheld words img t (length ids) start unheld in
+      let k : 19 ≡ chainGiven words img t (length ids) start = unheld-number words _ unheld in
       record {
         number = k;
         answer = zeros-given _ _ _ ∙ ap (λ (n : ℕ). given n (length (chainIds (heldIn words) t start)) start 0) k;
@@ -56,8 +41,9 @@ module _ (words img : List ℕ) (t : Tables) (ids : List ℕ) (start : ℕ) (ids
       }
 
   pub read-refused : (offset : ℕ) (buf : List ℕ) → ReadChainGives words img t ids start offset buf 19 (0 ∷ 0 ∷ 0 ∷ []) words img t ids' buf
+  unfolding readGiven
   read-refused offset buf =
-      let k : 19 ≡ readGiven words img t (length ids) start offset = read-unheld words img t (length ids) start offset unheld in
+      let k : 19 ≡ readGiven words img t (length ids) start offset = unheld-number words _ unheld in
       record {
         number = k;
         answer = zeros-given _ _ _ ∙ ap (λ (n : ℕ). given n (length (chainIds (heldIn words) t start)) start (readCount (stateLen (heldIn words)) (chainIds (heldIn words) t start) offset buf)) k;
@@ -74,9 +60,10 @@ module _ (words img : List ℕ) (t : Tables) (ids : List ℕ) (start : ℕ) (s :
   held = sym h ∙ some
 
   pub open-given : ChainOpens s img t ids start r img' t' ids' → OpenChainGives words img t ids start no words' words img' t' ids'
+  unfolding chainGiven
   open-given says =
       let o : ChainOpens (heldIn words) img t ids start r img' t' ids' = rw e at says in
-      let k : chainNo (heldIn words) img t (length ids) start ≡ chainGiven words img t (length ids) start = chain-held words img t (length ids) start held in
+      let k : chainNo (heldIn words) img t (length ids) start ≡ chainGiven words img t (length ids) start = held-number words _ held in
       record {
         number = n ∙ number-of (r .answer) _ _ _ _ (o .answer) ∙ k;
         answer = w ∙ words-of (r .answer) _ _ _ _ (o .answer) ∙ ap (λ (m : ℕ). given m (length (chainIds (heldIn words) t start)) start 0) k;
@@ -87,9 +74,10 @@ module _ (words img : List ℕ) (t : Tables) (ids : List ℕ) (start : ℕ) (s :
       }
 
   pub read-given : (offset : ℕ) (buf buf' : List ℕ) → ChainReads s img t ids start offset buf r img' t' ids' buf' → ReadChainGives words img t ids start offset buf no words' words img' t' ids' buf'
+  unfolding readGiven
   read-given offset buf buf' says =
       let o : ChainReads (heldIn words) img t ids start offset buf r img' t' ids' buf' = rw e at says in
-      let k : readNo (heldIn words) img t (length ids) start offset ≡ readGiven words img t (length ids) start offset = read-held words img t (length ids) start offset held in
+      let k : readNo (heldIn words) img t (length ids) start offset ≡ readGiven words img t (length ids) start offset = held-number words _ held in
       record {
         number = n ∙ number-of (r .answer) _ _ _ _ (o .answer) ∙ k;
         answer = w ∙ words-of (r .answer) _ _ _ _ (o .answer) ∙ ap (λ (m : ℕ). given m (length (chainIds (heldIn words) t start)) start (readCount (stateLen (heldIn words)) (chainIds (heldIn words) t start) offset buf)) k;

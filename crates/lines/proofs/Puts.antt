@@ -37,11 +37,6 @@ pub text-taken : (xs : List ℕ) {t : Text} → t ≡ written xs → take (t .le
 unfolding written
 text-taken xs e = ap (λ (u : Text). take (u .len) (u .bytes)) e ∙ take-at xs _ (length xs) refl
 
--- its length
-pub text-length : (xs : List ℕ) {t : Text} → t ≡ written xs → t .len ≡ length xs
-unfolding written
-text-length xs e = ap (λ (u : Text). u .len) e
-
 -- its bytes hold it
 pub text-within : (xs : List ℕ) {t : Text} → t ≡ written xs → t .len ≤ length (t .bytes)
 unfolding written

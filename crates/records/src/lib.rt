@@ -33,10 +33,7 @@ pub fn mode_in(case: &[u8]) -> Validation
     requires { ⌜ length (now case) ≡ 1024 ⌝ }
     ensures { λ r. ⌜ r ≡ modeIn (now (case .entry)) ⌝ }
 {
-    if case[1] == 0 {
-        return Validation::Permissive;
-    }
-    Validation::Strict
+    layout::mode_of(case[1] as u32)
 }
 
 // Takes as many numbers of four bytes as `numbers` has places.
@@ -56,19 +53,9 @@ pub fn header_in(version: Version, held: &[u8]) -> Header
     requires { ⌜ length (now held) ≡ 468 ⌝ }
     ensures { λ r. ⌜ r ≡ headerIn version (now (held .entry)) ⌝ }
 {
-    let mut list = [0u32; 109];
-    take_numbers(&held[32..468], &mut list);
-    Header {
-        version,
-        dirs: words::read32(held, 4),
-        fats: words::read32(held, 8),
-        dir: words::read32(held, 12),
-        minifat: words::read32(held, 16),
-        minifats: words::read32(held, 20),
-        difat: words::read32(held, 24),
-        difats: words::read32(held, 28),
-        list,
-    }
+    let mut words = [0u32; 117];
+    take_numbers(held, &mut words);
+    layout::header_with(version, words)
 }
 
 // Whether two headers are the same.

@@ -9,8 +9,8 @@ use openings::same_image;
 use records::RECORD;
 ghost use mathlib.Core.Path.{_≡_};
 ghost use mathlib.Core.Bool.{true};
-ghost use Prim.Native.Nat.{_≤_};
-ghost use Rattle.replay.specs.Agrees.{Agrees};
+ghost use Rattle.replay.specs.Agrees.{Agrees, Replays};
+ghost use Rattle.replay.specs.declared.Replayed.the-variants.{Same};
 
 // How many records are replayed at most: nothing says that the input ends.
 const MOST: u64 = 100_000;
@@ -53,14 +53,16 @@ fn same_answer(case: &[u8]) -> bool
     }
 }
 
-// Reads one record and replays it; a short read ends the list.
-fn replay_next() -> Replayed {
-    let mut record = [0u8; 1024];
-    let n = io::read_full(STDIN_FILENO, &mut record);
+// Reads the next record into the buffer and replays it there; a short read ends the list. No contract can say which bytes
+// are read: `Same` is said of those that the buffer then holds.
+fn replay_next(case: &mut [u8; 1024]) -> Replayed
+    ensures { λ r. ⌜ (r ≡ Same → Agrees (now (case .exit))) ⌝ }
+{
+    let n = io::read_full(STDIN_FILENO, case);
     if n < 1024 {
         return Replayed::Ended;
     }
-    if same_answer(&record) {
+    if same_answer(case) {
         return Replayed::Same;
     }
     Replayed::Differs
@@ -75,29 +77,42 @@ fn say_place(place: u64) {
 
 // Replays the list to its end and names each answer that differs.
 fn replay_all() -> Sum
-    ensures { λ r. ⌜ r .differ ≤ r .answers ⌝ }
+    ensures { λ r. ⌜ Replays (r .answers) (r .differ) ⌝ }
 {
+    let mut case = [0u8; 1024];
     let mut answers: u64 = 0;
     let mut differ: u64 = 0;
     while answers < MOST {
-        let next = replay_next();
-        if let Replayed::Ended = next {
-            return Sum { answers, differ };
-        }
-        answers += 1;
-        if let Replayed::Differs = next {
-            say_place(answers);
-            differ += 1;
+        let next = replay_next(&mut case);
+        match next {
+            Replayed::Ended => {
+                return Sum { answers, differ };
+            }
+            Replayed::Same => {
+                answers += 1;
+            }
+            Replayed::Differs => {
+                answers += 1;
+                differ += 1;
+                say_place(answers);
+            }
         }
     }
     Sum { answers, differ }
 }
 
-// Writes how many answers there were, and how many differ.
-fn main() {
-    let sum = replay_all();
+// Writes how many answers there were, and how many differ, which can only be what a replay counts.
+fn say_sum(sum: Sum)
+    requires { ⌜ Replays (sum .answers) (sum .differ) ⌝ }
+{
     io::print_decimal(STDOUT_FILENO, sum.answers);
     io::write_all(STDOUT_FILENO, b" answers, ");
     io::print_decimal(STDOUT_FILENO, sum.differ);
     io::write_all(STDOUT_FILENO, b" differ\n");
+}
+
+// Replays the list and says what came of it.
+fn main() {
+    let sum = replay_all();
+    say_sum(sum);
 }
