@@ -4,8 +4,8 @@ use crate::alike::zero_bytes_from;
 use crate::alike::zeros_from;
 use crate::tables::same_tables;
 use alloc::early::judge_early;
-use alloc::open::lesser_of;
 use fat::listed::ceil;
+use fat::load::lesser;
 use fat::load::past_header;
 use header::Header;
 use header::Validation;
@@ -26,8 +26,8 @@ ghost use Rattle.agree.specs.Parts.{WholeLent, tailsZero};
 pub fn shortest(fat: &[u32], fats: &[u32], difats: &[u32], frees: &[u32], marks: &[u8]) -> usize
     ensures { λ r. ⌜ r ≡ shortestOf (record { fat = now (fat .entry); fats = now (fats .entry); difats = now (difats .entry); frees = now (frees .entry); marks = now (marks .entry) }) ⌝ }
 {
-    let others = lesser_of(difats.len(), lesser_of(frees.len(), marks.len()));
-    lesser_of(fat.len(), lesser_of(fats.len(), others))
+    let others = lesser(difats.len(), lesser(frees.len(), marks.len()));
+    lesser(fat.len(), lesser(fats.len(), others))
 }
 
 // Whether each table holds zero past its count: n sectors, k of the FAT, d of the DIFAT, and so many FREE.

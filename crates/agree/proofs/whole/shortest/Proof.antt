@@ -6,28 +6,28 @@ use borrow.Author.Needs.{needs}
 use Rattle.agree.proofs.whole.shortest.Statement.{statement}
 use Rattle.agree.proofs.whole.shortest.Tie as tie
 
-lesser-of-requires : tie.Need-lesser-of-requires
-lesser-of-requires c κs = search needs
+lesser-requires : tie.Need-lesser-requires
+lesser-requires c κs = search needs
 
-lesser-of-requires-2 : tie.Need-lesser-of-requires-2
-lesser-of-requires-2 c κs = search needs
+lesser-requires-2 : tie.Need-lesser-requires-2
+lesser-requires-2 c κs = search needs
 
-lesser-of-requires-3 : tie.Need-lesser-of-requires-3
-lesser-of-requires-3 c κs = search needs
+lesser-requires-3 : tie.Need-lesser-requires-3
+lesser-requires-3 c κs = search needs
 
-lesser-of-requires-4 : tie.Need-lesser-of-requires-4
-lesser-of-requires-4 c κs = search needs
+lesser-requires-4 : tie.Need-lesser-requires-4
+lesser-requires-4 c κs = search needs
 
 returns : tie.Need-returns
 unfolding shortest
-returns c = c .lesser-of4 .ensures ∙ ap (min _) (c .before .lesser-of3 .ensures ∙ ap (min _) (c .before .before .lesser-of2 .ensures ∙ ap (min _) (c .before .before .before .lesser-of .ensures)))
+returns c = c .lesser4 .ensures .2 ∙ ap (min _) (c .before .lesser3 .ensures .2 ∙ ap (min _) (c .before .before .lesser2 .ensures .2 ∙ ap (min _) (c .before .before .before .lesser .ensures .2)))
 
 pub shortest-spec : {M : Type 1} → statement M
 shortest-spec =
     tie.close
     (tie.spec
-    lesser-of-requires
-    lesser-of-requires-2
-    lesser-of-requires-3
-    lesser-of-requires-4
+    lesser-requires
+    lesser-requires-2
+    lesser-requires-3
+    lesser-requires-4
     returns)

@@ -20,11 +20,11 @@ img j = entry j .args .image .now
 abbrev tables : tie.After-judge-early → Tables
 tables j = record { fat = entry j .args .fat .now; fats = entry j .args .fats .now; difats = entry j .args .difats .now; frees = entry j .args .frees .now; marks = entry j .args .marks .now }
 
-short-is : (j : tie.After-judge-early) → j .before .lesser-of4 .result ≡ shortest (tables j)
+short-is : (j : tie.After-judge-early) → j .before .lesser4 .result ≡ shortest (tables j)
 unfolding shortest
 short-is j =
-    j .before .lesser-of4 .ensures
-    ∙ ap (min _) (j .before .before .lesser-of3 .ensures ∙ ap (min _) (j .before .before .before .lesser-of2 .ensures ∙ ap (min _) (j .before .before .before .before .lesser-of .ensures)))
+    j .before .lesser4 .ensures .2
+    ∙ ap (min _) (j .before .before .lesser3 .ensures .2 ∙ ap (min _) (j .before .before .before .lesser2 .ensures .2 ∙ ap (min _) (j .before .before .before .before .lesser .ensures .2)))
 
 -- the number that is judged first is that of the first rows
 first : (j : tie.After-judge-early) → j .judge-early .result .no ≡ refusal (firstRows (entry j .args .validation) (img j) (entry j .args .used) (shortest (tables j)))
@@ -44,17 +44,17 @@ zero c = sym (first (early c)) ∙ passed c .if1 .left
 abbrev loaded : tie.After-slice-known10 → tie.After-load-all
 loaded c = c .before .before .before .before .before .before .before .before .before .before
 
-lesser-of-requires : tie.Need-lesser-of-requires
-lesser-of-requires c κs = search needs
+lesser-requires : tie.Need-lesser-requires
+lesser-requires c κs = search needs
 
-lesser-of-requires-2 : tie.Need-lesser-of-requires-2
-lesser-of-requires-2 c κs = search needs
+lesser-requires-2 : tie.Need-lesser-requires-2
+lesser-requires-2 c κs = search needs
 
-lesser-of-requires-3 : tie.Need-lesser-of-requires-3
-lesser-of-requires-3 c κs = search needs
+lesser-requires-3 : tie.Need-lesser-requires-3
+lesser-requires-3 c κs = search needs
 
-lesser-of-requires-4 : tie.Need-lesser-of-requires-4
-lesser-of-requires-4 c κs = search needs
+lesser-requires-4 : tie.Need-lesser-requires-4
+lesser-requires-4 c κs = search needs
 
 judge-early-requires : tie.Need-judge-early-requires
 judge-early-requires c κs = search needs
@@ -129,10 +129,10 @@ pub open-tables-spec : {M : Type 1} → statement M
 open-tables-spec =
     tie.close
     (tie.spec
-    lesser-of-requires
-    lesser-of-requires-2
-    lesser-of-requires-3
-    lesser-of-requires-4
+    lesser-requires
+    lesser-requires-2
+    lesser-requires-3
+    lesser-requires-4
     judge-early-requires
     nothing-requires
     returns
