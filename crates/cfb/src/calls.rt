@@ -2,8 +2,8 @@
 use crate::Answer;
 use crate::State;
 use agree::whole::agrees;
-use agree::whole::shortest;
 use alloc::early::room_of;
+use alloc::open::shortest;
 use fat::load::lesser;
 use moves::change::zero_from;
 use walk::Walked;

@@ -1,10 +1,10 @@
 -- The lesser of lengths, four times, is the definition.
 use mathlib.Core.Path.{_∙_, ap}
 use Prim.Native.Nat.{min}
 use Rattle.alloc.specs.Opening.{shortest}
 use borrow.Author.Needs.{needs}
-use Rattle.agree.proofs.whole.shortest.Statement.{statement}
-use Rattle.agree.proofs.whole.shortest.Tie as tie
+use Rattle.alloc.proofs.open.shortest.Statement.{statement}
+use Rattle.alloc.proofs.open.shortest.Tie as tie
 
 lesser-requires : tie.Need-lesser-requires
 lesser-requires c κs = search needs
