@@ -11,7 +11,7 @@ use Rattle.lists.specs.Lists.{splice}
 use Rattle.fields.specs.Fields.{fatsAt, difatAt, offsetOf, widthOf}
 use Rattle.sectors.specs.Sectors.{startOf, sectorOf}
 use Rattle.fat.specs.Lists.{ceil}
-use Rattle.alloc.specs.Opened.{padded}
+use Rattle.alloc.specs.Opening.{padded}
 use Rattle.chain.specs.Bytes.{chainBytes}
 use Rattle.stores.proofs.Apart.{sector-before, sector-other}
 use Rattle.room.specs.Needed.{resizeMore, writeMore}

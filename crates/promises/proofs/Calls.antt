@@ -10,8 +10,7 @@ use Rattle.lists.specs.Lists.{splice}
 use Rattle.lists.specs.Rows.{Row, row, refusal, distinct, fresh}
 use Rattle.lists.proofs.Rows.{given-none, append-accepts}
 use Rattle.fat.specs.Lists.{roomOf, ceil}
-use Rattle.alloc.specs.Opening.{Tables}
-use Rattle.alloc.specs.Opened.{padded}
+use Rattle.alloc.specs.Opening.{Tables, padded}
 use Rattle.walk.specs.Walk.{lists, walkOf}
 use Rattle.chain.specs.Bytes.{chainBytes}
 use Rattle.hand.specs.Hand.{Chain}
