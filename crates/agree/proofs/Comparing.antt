@@ -16,8 +16,7 @@ use Rattle.header.specs.Versions.{majorOf}
 use Rattle.header.specs.declared.Version.{Version}
 use Rattle.header.specs.declared.Version.the-variants.{V3, V4}
 use Rattle.header.specs.declared.Header.{Header}
-use Rattle.alloc.specs.Opening.{Tables}
-use Rattle.alloc.specs.Opened.{padded}
+use Rattle.alloc.specs.Opening.{Tables, padded}
 use Rattle.alloc.proofs.Filled.{front-padded}
 use Rattle.points.proofs.Testing.{same-of}
 use Rattle.agree.specs.Agree.{sameFields, sameHeader, holds}

@@ -21,8 +21,8 @@ use Rattle.fat.proofs.Differing.{below-of}
 use Rattle.fat.proofs.Listing.{fats-few, difats-few}
 use Rattle.judge.specs.Judge.{marksOf, freesOf}
 use Rattle.judge.proofs.Judging.{frees-exactly, frees-ascend, frees-few}
-use Rattle.alloc.specs.Opening.{Tables, firstRows, openNo, openTables, openFat, shortest, leftIn}
-use Rattle.alloc.specs.Opened.{padded, tablesLeft, Lent}
+use Rattle.alloc.specs.Opening.{Tables, firstRows, openNo, openTables, openFat, shortest, leftIn, padded}
+use Rattle.alloc.specs.Opened.{tablesLeft, Lent}
 use Rattle.alloc.proofs.Opens.{open-first, opens-lent}
 use Rattle.alloc.proofs.Filled.{front-padded, length-openFat, length-marks, length-fats, length-difats}
 use Rattle.points.specs.Frees.{occurs, timesFree, anyOrder, FreesOnce}

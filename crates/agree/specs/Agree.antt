@@ -11,8 +11,7 @@ use Rattle.header.specs.declared.Header.{Header}
 use Rattle.header.specs.declared.Validation.{Validation}
 use Rattle.fat.specs.Lists.{sectorsIn}
 use Rattle.points.specs.Frees.{anyOrder}
-use Rattle.alloc.specs.Opening.{Tables, openNo, openTables, shortest}
-use Rattle.alloc.specs.Opened.{padded}
+use Rattle.alloc.specs.Opening.{Tables, openNo, openTables, shortest, padded}
 
 -- two headers agree in all but their lists
 unfoldable pub sameFields : Header → Header → Bool

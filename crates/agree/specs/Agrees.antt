@@ -10,8 +10,7 @@ use Rattle.header.specs.declared.Validation.{Validation}
 use Rattle.fat.specs.Lists.{sectorsIn}
 use Rattle.points.specs.Frees.{occurs}
 pub use Rattle.points.specs.Frees.{FreesOnce}
-use Rattle.alloc.specs.Opening.{Tables, openNo, openTables, shortest}
-use Rattle.alloc.specs.Opened.{padded}
+use Rattle.alloc.specs.Opening.{Tables, openNo, openTables, shortest, padded}
 
 -- document 01, 19: lent tables t hold the tables o of an image of n sectors, zeros past their counts, the free list in any order
 pub record Held (n : ℕ) (o : Tables) (free : ℕ) (t : Tables) : Type 0 where

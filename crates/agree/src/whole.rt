@@ -4,7 +4,7 @@ use crate::alike::zero_bytes_from;
 use crate::alike::zeros_from;
 use crate::tables::same_tables;
 use alloc::early::judge_early;
-use alloc::open::lesser_of;
+use alloc::open::shortest;
 use fat::listed::ceil;
 use fat::load::past_header;
 use header::Header;
@@ -18,17 +18,9 @@ ghost use Rattle.lists.specs.Lists.{both};
 ghost use Rattle.lists.specs.Rows.{refusal};
 ghost use Rattle.header.specs.Versions.{lengthOf};
 ghost use Rattle.fat.specs.Lists.{roomOf};
-ghost use Rattle.alloc.specs.Opening.{openTables, shortest as shortestOf, tableRows};
+ghost use Rattle.alloc.specs.Opening.{openTables, tableRows};
 ghost use Rattle.agree.specs.Agree.{agreement, tablesHeld};
 ghost use Rattle.agree.specs.Parts.{WholeLent, tailsZero};
-
-// The length of the shortest table.
-pub fn shortest(fat: &[u32], fats: &[u32], difats: &[u32], frees: &[u32], marks: &[u8]) -> usize
-    ensures { λ r. ⌜ r ≡ shortestOf (record { fat = now (fat .entry); fats = now (fats .entry); difats = now (difats .entry); frees = now (frees .entry); marks = now (marks .entry) }) ⌝ }
-{
-    let others = lesser_of(difats.len(), lesser_of(frees.len(), marks.len()));
-    lesser_of(fat.len(), lesser_of(fats.len(), others))
-}
 
 // Whether each table holds zero past its count: n sectors, k of the FAT, d of the DIFAT, and so many FREE.
 fn tails_zero(

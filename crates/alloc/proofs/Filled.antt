@@ -11,9 +11,9 @@ use Rattle.header.specs.declared.Header.{Header}
 use Rattle.fat.specs.Lists.{fatCount, difatCount, difatsOf, fatsOf, difatsIn, fatsIn}
 use Rattle.judge.specs.Judge.{forgivenFat, marksOf, freesOf}
 use Rattle.fat.specs.Loaded.{Counted}
-use Rattle.alloc.specs.Opened.{TablesLoaded, padded, Zeroed, TablesFilled, AllFilled, AllLoaded, Lent}
+use Rattle.alloc.specs.Opened.{TablesLoaded, Zeroed, TablesFilled, AllFilled, AllLoaded, Lent}
 use Rattle.judge.specs.Judged.{Listed}
-use Rattle.alloc.specs.Opening.{openFat}
+use Rattle.alloc.specs.Opening.{openFat, padded}
 use Rattle.alloc.specs.declared.open.Filled.{Filled}
 
 -- the front and the rest of a list of zeros

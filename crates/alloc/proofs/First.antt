@@ -11,10 +11,10 @@ use lib.Dec.{eqb, ltb}
 use lib.ListN.{length}
 use Rattle.lists.specs.Lists.{choose, either}
 use Rattle.lists.specs.Rows.{row, refusal, distinct, fresh}
-use Rattle.lists.proofs.Cases.{below-or, same-or, either-right, either-none}
+use Rattle.lists.proofs.Cases.{same-or, either-right, either-none}
 use Rattle.lists.proofs.Rows.{stop, pass, append-given, append-none, given-none}
 use Rattle.header.specs.Versions.{lengthOf}
-use Rattle.header.specs.Read.{headerRows, readRows, readNo, headerOf, headerLeft, ReadSays}
+use Rattle.header.specs.Read.{headerRows, readRows, readNo, headerOf, none, ReadSays}
 use Rattle.header.specs.declared.Read.{Read}
 use Rattle.header.specs.declared.Version.{Version}
 use Rattle.header.specs.declared.Version.the-variants.{V3, V4}
@@ -73,25 +73,11 @@ module _ (m : Validation) (img : List ℕ) (used short : ℕ) where
         unfolding refusal
         early-passed h = sym (past-10 ∙ pass 11 _ [] (le-ltb short _ h))
 
-  -- an image that passes the rows has a header that is read
-  passed-read : refusal (firstRows m img used short) ≡ 0 → readNo m img ≡ 0
-  passed-read z =
-      ⊎-elim
-      (λ (l : used < 512). absurd (omega (arith, early-below l, z)))
-      (λ (low : 512 ≤ used). ⊎-elim
-      (λ (l : length img < used). absurd (omega (arith, early-above l, z)))
-      (λ (high : used ≤ length img). ⊎-elim
-      (λ (e : readNo m img ≡ 0). e)
-      (λ (n : readNo m img ≢ 0). absurd (n (early-header low high (readNo m img) refl n ∙ z)))
-      (same-or (readNo m img) 0))
-      (below-or (length img) used))
-      (below-or used 512)
-
 -- a refusal, and what stands beside it
-pub early-no : (m : Validation) (img : List ℕ) (used short w : ℕ) (h : Header) (r : Early) → r ≡ record { no = w; len = 0; sectors = 0; header = h } → h ≡ headerLeft m img → (w ≡ 0 → ⊥)
+pub early-no : (m : Validation) (img : List ℕ) (used short w : ℕ) (r : Early) → r ≡ record { no = w; len = 0; sectors = 0; header = none } → (w ≡ 0 → ⊥)
     → w ≡ refusal (firstRows m img used short) → EarlySays img used m short r
-early-no m img used short w h r e left n k =
-    rw e (record { number = k; len = rw (ne-eqb w 0 n); sectors = rw (ne-eqb w 0 n); header = left })
+early-no m img used short w r e n k =
+    rw e (record { number = k; len = rw (ne-eqb w 0 n); sectors = rw (ne-eqb w 0 n); header = rw (ne-eqb w 0 n) })
 
 -- what is said where nothing is refused
 module _ {img : List ℕ} {used : ℕ} {m : Validation} {short : ℕ} {r : Early} (s : EarlySays img used m short r) (z : r .no ≡ 0) where
@@ -102,7 +88,7 @@ module _ {img : List ℕ} {used : ℕ} {m : Validation} {short : ℕ} {r : Early
   early-sectors = s .sectors ∙ rw (eq-eqb (r .no) 0 z)
 
   pub early-own : r .header ≡ headerOf img
-  early-own = s .header ∙ rw (eq-eqb (readNo m img) 0 (passed-read m img used short (sym (s .number) ∙ z)))
+  early-own = s .header ∙ rw (eq-eqb (r .no) 0 z)
 
 -- any two permitted results are the same
 pub early-unique : (img : List ℕ) (used : ℕ) (m : Validation) (short : ℕ) (r q : Early) → EarlySays img used m short r → EarlySays img used m short q → r ≡ q
@@ -110,7 +96,7 @@ early-unique img used m short r q s t =
     let no : r .no ≡ q .no = s .number ∙ sym (t .number) in
     let len : r .len ≡ q .len = s .len ∙ ap (λ (k : ℕ). choose (eqb k 0) (lengthOf (headerOf img .version)) 0) no ∙ sym (t .len) in
     let sectors : r .sectors ≡ q .sectors = s .sectors ∙ ap (λ (k : ℕ). choose (eqb k 0) (sectorsIn (lengthOf (headerOf img .version)) used) 0) no ∙ sym (t .sectors) in
-    let header : r .header ≡ q .header = s .header ∙ sym (t .header) in
+    let header : r .header ≡ q .header = s .header ∙ ap (λ (k : ℕ). choose (eqb k 0) (headerOf img) none) no ∙ sym (t .header) in
     ap (λ (k : ℕ). record { no = k; len = r .len; sectors = r .sectors; header = r .header }) no
     ∙ ap (λ (k : ℕ). record { no = q .no; len = k; sectors = r .sectors; header = r .header }) len
     ∙ ap (λ (k : ℕ). record { no = q .no; len = q .len; sectors = k; header = r .header }) sectors

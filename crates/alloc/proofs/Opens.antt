@@ -18,8 +18,8 @@ use Rattle.header.specs.declared.Version.{Version}
 use Rattle.header.specs.declared.Version.the-variants.{V3, V4}
 use Rattle.fat.specs.Lists.{sectorsIn}
 use Rattle.judge.specs.Judge.{freesOf, fatRows}
-use Rattle.alloc.specs.Opening.{Tables, firstRows, tableRows, openRows, openNo, openFat, openTables, shortest, leftIn}
-use Rattle.alloc.specs.Opened.{padded, foundIn, tablesLeft, AllLoaded, Lent, OpenSays}
+use Rattle.alloc.specs.Opening.{Tables, firstRows, tableRows, openRows, openNo, openFat, openTables, shortest, leftIn, padded}
+use Rattle.alloc.specs.Opened.{foundIn, tablesLeft, AllLoaded, Lent, OpenSays}
 use Rattle.alloc.specs.declared.open.Filled.{Filled}
 use Rattle.alloc.specs.declared.open.Found.{Found}
 use Rattle.alloc.proofs.First.{early-held}
@@ -34,7 +34,7 @@ unfolding leftIn
 left-zero k before xs n h = rw (ne-eqb k 0 n, lt-leb k 11 h)
 
 left-loaded : (k : ℕ) (before xs : List ℕ) → k ≡ 0 → leftIn k before xs ≡ padded xs (length before)
-unfolding leftIn padded
+unfolding leftIn
 left-loaded k before xs z = rw (eq-eqb k 0 z)
 
 -- what is found beside a refusal, and of an image that opens

@@ -1,8 +1,8 @@
 -- What an opening leaves in the lent tables. Assumes nothing.
-use Prim.Native.Nat.{ℕ, _-_, _≤_}
+use Prim.Native.Nat.{ℕ, _≤_}
 use mathlib.Core.Path.{_≡_}
 use mathlib.Core.Bool.{Bool}
-use mathlib.Core.List.{List, _++_}
+use mathlib.Core.List.{List}
 use lib.ListN.{length, replicate}
 use lib.Dec.{eqb}
 use Rattle.lists.specs.Lists.{choose}
@@ -14,13 +14,9 @@ use Rattle.header.specs.declared.Header.{Header}
 use Rattle.header.specs.declared.Validation.{Validation}
 use Rattle.fat.specs.Lists.{most, sectorsIn, difatsIn, fatsIn}
 use Rattle.judge.specs.Judge.{freesOf, marksOf}
-use Rattle.alloc.specs.Opening.{Tables, tableRows, openFat, openTables, openNo, shortest, leftIn}
+use Rattle.alloc.specs.Opening.{Tables, tableRows, openFat, openTables, openNo, shortest, padded, leftIn}
 use Rattle.alloc.specs.declared.open.Filled.{Filled}
 use Rattle.alloc.specs.declared.open.Found.{Found}
-
--- a list, and zeros after it up to a length
-unfoldable pub padded : List ℕ → ℕ → List ℕ
-padded xs m = xs ++ replicate (m - length xs) 0
 
 -- lent tables that are zero and long enough for n sectors of S bytes
 pub record Zeroed (S n len : ℕ) (fat fats difats : List ℕ) (scratch : ℕ) (marks : List ℕ) : Type 0 where

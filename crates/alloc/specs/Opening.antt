@@ -76,8 +76,13 @@ unfoldable pub openNo : Validation → List ℕ → ℕ → ℕ → ℕ
 unfolding openRows
 openNo m img used short = refusal (openRows m img used short)
 
+-- a list, and zeros after it up to a length
+unfoldable pub padded : List ℕ → ℕ → List ℕ
+padded xs m = xs ++ replicate (m - length xs) 0
+
 -- document 01: a table after the opening: 1 to 11 leave it, 12 to 18 leave it zero, else it holds xs and then zeros
 unfoldable pub leftIn : ℕ → List ℕ → List ℕ → List ℕ
+unfolding padded
 leftIn number before xs =
-    choose (eqb number 0) (xs ++ replicate (length before - length xs) 0)
+    choose (eqb number 0) (padded xs (length before))
     (choose (leb number 11) before (replicate (length before) 0))

@@ -4,8 +4,8 @@ use header::Validation;
 use header::Version;
 ghost use mathlib.Core.Path.{_≡_};
 ghost use Prim.Native.Nat.{_≤_};
-ghost use lib.ListN.{length};
 ghost use Rattle.header.specs.Versions.{lengthOf};
+ghost use Rattle.header.specs.Read.{none};
 ghost use Rattle.fat.specs.Lists.{roomOf};
 ghost use Rattle.alloc.specs.Early.{EarlySays};
 
@@ -42,10 +42,11 @@ pub fn room_of(version: Version, lent: usize) -> usize
     room(version.sector_len(), lent)
 }
 
-// A refusal before anything was found out.
-fn stopped(no: u32, header: Header) -> Early
-    ensures { λ r. ⌜ r ≡ record { no = no; len = 0; sectors = 0; header = header } ⌝ }
+// A refusal, and what stands beside it: length 0, no sectors, an empty header.
+fn stopped(no: u32) -> Early
+    ensures { λ r. ⌜ r ≡ record { no = no; len = 0; sectors = 0; header = none } ⌝ }
 {
+    let header = Header::none();
     Early {
         no,
         len: 0,
@@ -61,27 +62,27 @@ pub fn judge_early(image: &[u8], used: usize, validation: Validation, short: usi
     let read = Header::read_from(image, validation);
     let h = read.header;
     if used < consts::HEADER_LEN {
-        return stopped(1, h);
+        return stopped(1);
     }
     if image.len() < used {
-        return stopped(1, h);
+        return stopped(1);
     }
     let verdict = read.verdict;
     let no = verdict.number();
     if no != 0 {
-        return stopped(no, h);
+        return stopped(no);
     }
     let version = h.version;
     let s = version.sector_len();
     if used % s != 0 {
-        return stopped(10, h);
+        return stopped(10);
     }
     let n = used / s - 1;
     if MOST < n {
-        return stopped(10, h);
+        return stopped(10);
     }
     if short < room(s, image.len()) {
-        return stopped(11, h);
+        return stopped(11);
     }
     Early {
         no: 0,

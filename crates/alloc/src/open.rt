@@ -2,14 +2,15 @@
 use crate::early::judge_early;
 use crate::tables::load_tables;
 use fat::listed::ceil;
+use fat::load::lesser;
 use fat::load::past_header;
 use header::Header;
 use header::Validation;
 use judge::entries::list_free;
 ghost use mathlib.Core.Path.{_≡_};
-ghost use Prim.Native.Nat.{min};
 ghost use lib.ListN.{length, replicate};
 ghost use Rattle.header.specs.Read.{none};
+ghost use Rattle.alloc.specs.Opening.{shortest as shortestOf};
 ghost use Rattle.alloc.specs.Opened.{AllFilled, AllLoaded, Lent, OpenSays, Zeroed, TablesFilled};
 
 // Makes every lent table zero.
@@ -137,14 +138,12 @@ fn nothing(no: u32) -> Found
     }
 }
 
-// The lesser of two lengths.
-pub fn lesser_of(a: usize, b: usize) -> usize
-    ensures { λ r. ⌜ r ≡ min a b ⌝ }
+// The length of the shortest table.
+pub fn shortest(fat: &[u32], fats: &[u32], difats: &[u32], frees: &[u32], marks: &[u8]) -> usize
+    ensures { λ r. ⌜ r ≡ shortestOf (record { fat = now (fat .entry); fats = now (fats .entry); difats = now (difats .entry); frees = now (frees .entry); marks = now (marks .entry) }) ⌝ }
 {
-    if a < b {
-        return a;
-    }
-    b
+    let others = lesser(difats.len(), lesser(frees.len(), marks.len()));
+    lesser(fat.len(), lesser(fats.len(), others))
 }
 
 // Opens an image of which so many bytes are used, and leaves its tables in lent ones.
@@ -160,8 +159,7 @@ pub fn open_tables(
 ) -> Found
     ensures { λ r. ⌜ OpenSays validation (now (image .entry)) used (record { fat = now (fat .entry); fats = now (fats .entry); difats = now (difats .entry); frees = now (frees .entry); marks = now (marks .entry) }) r (record { fat = now (fat .exit); fats = now (fats .exit); difats = now (difats .exit); frees = now (frees .exit); marks = now (marks .exit) }) ⌝ }
 {
-    let others = lesser_of(difats.len(), lesser_of(frees.len(), marks.len()));
-    let short = lesser_of(fat.len(), lesser_of(fats.len(), others));
+    let short = shortest(fat, fats, difats, frees, marks);
     let early = judge_early(image, used, validation, short);
     let no = early.no;
     if no != 0 {

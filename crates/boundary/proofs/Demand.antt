@@ -10,8 +10,8 @@ use lib.Seq.{take-at}
 use Rattle.lists.specs.Lists.{choose, Below}
 use Rattle.header.specs.declared.Validation.{Validation}
 use Rattle.header.specs.declared.Validation.the-variants.{Strict}
-use Rattle.alloc.specs.Opening.{Tables, openNo, shortest, leftIn}
-use Rattle.alloc.specs.Opened.{padded, tablesLeft}
+use Rattle.alloc.specs.Opening.{Tables, openNo, shortest, padded, leftIn}
+use Rattle.alloc.specs.Opened.{tablesLeft}
 use Rattle.agree.specs.Agrees.{Permuted}
 use Rattle.moves.specs.Change.{edited, bytesOf}
 use Rattle.moves.specs.declared.change.Edit.{Edit}

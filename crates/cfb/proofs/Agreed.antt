@@ -21,8 +21,7 @@ use Rattle.lists.proofs.Cases.{both-left, both-right}
 use Rattle.fat.specs.Lists.{most, sectorsIn, roomOf, fatCount, difatCount, difatAt, allBelow, different, ends, countsRight, restFree, difatsIn, fatsIn, chainRight, idsRight, fatsRight, listsRight}
 use Rattle.judge.specs.Judge.{firstWrong, forgivenFat, marksOf, fatRows}
 use Rattle.judge.proofs.Rows.{Number, is-0, is-15, is-16, is-17, first-number}
-use Rattle.alloc.specs.Opening.{Tables, firstRows, tableRows, openRows, openNo, judgedFat, openFat, openTables, shortest}
-use Rattle.alloc.specs.Opened.{padded}
+use Rattle.alloc.specs.Opening.{Tables, firstRows, tableRows, openRows, openNo, judgedFat, openFat, openTables, shortest, padded}
 use Rattle.alloc.proofs.First.{early-held}
 use Rattle.alloc.proofs.Filled.{front-padded}
 use Rattle.agree.specs.Agrees.{Agrees}

@@ -12,8 +12,7 @@ use Rattle.lists.specs.Lists.{choose}
 use Rattle.lists.specs.Rows.{row, refusal, distinct, fresh}
 use Rattle.lists.proofs.Cases.{same-or}
 use Rattle.lists.proofs.Rows.{stop, pass, append-given, append-none}
-use Rattle.alloc.specs.Opening.{Tables}
-use Rattle.alloc.specs.Opened.{padded}
+use Rattle.alloc.specs.Opening.{Tables, padded}
 use Rattle.walk.specs.declared.Walked.{Walked}
 use Rattle.walk.specs.declared.Walked.the-variants.{Listed, Refused}
 use Rattle.chain.specs.Bytes.{ReadLeft}

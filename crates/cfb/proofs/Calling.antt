@@ -13,8 +13,7 @@ use Rattle.lists.specs.Rows.{refusal}
 use Rattle.lists.proofs.Rows.{stop, pass}
 use Rattle.consts.specs.Consts.{maxRegular}
 use Rattle.fat.specs.Lists.{roomOf}
-use Rattle.alloc.specs.Opening.{Tables, shortest}
-use Rattle.alloc.specs.Opened.{padded}
+use Rattle.alloc.specs.Opening.{Tables, shortest, padded}
 use Rattle.agree.specs.Agree.{agreement}
 use Rattle.walk.specs.Steps.{Once}
 use Rattle.walk.specs.Walk.{Outcome, lists, refuses, walkOf}

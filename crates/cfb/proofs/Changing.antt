@@ -11,8 +11,7 @@ use lib.Dec.{eqb}
 use lib.ListN.{length, replicate}
 use Rattle.lists.specs.Lists.{choose}
 use Rattle.fat.specs.Lists.{roomOf}
-use Rattle.alloc.specs.Opening.{Tables}
-use Rattle.alloc.specs.Opened.{padded}
+use Rattle.alloc.specs.Opening.{Tables, padded}
 use Rattle.walk.specs.declared.Walked.{Walked}
 use Rattle.walk.specs.declared.Walked.the-variants.{Listed, Refused}
 use Rattle.hand.specs.Hand.{Chain}

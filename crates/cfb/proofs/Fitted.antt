@@ -18,8 +18,7 @@ use Rattle.fat.specs.Lists.{most, sectorsIn, roomOf, fatCount, difatCount, difa
 use Rattle.fat.proofs.Differing.{below-at}
 use Rattle.fat.proofs.Listing.{ceil-few}
 use Rattle.judge.proofs.Judging.{frees-few}
-use Rattle.alloc.specs.Opening.{Tables, openFat, openTables, openNo, shortest}
-use Rattle.alloc.specs.Opened.{padded}
+use Rattle.alloc.specs.Opening.{Tables, openFat, openTables, openNo, shortest, padded}
 use Rattle.agree.specs.Agrees.{FreesOnce, Held, Agrees}
 use Rattle.agree.proofs.Agreeing.{holds-room}
 use Rattle.hand.specs.Hand.{Hand}

@@ -17,8 +17,7 @@ use Rattle.lists.proofs.Rows.{given-none}
 use Rattle.consts.specs.Consts.{endOfChain, freeSector}
 use Rattle.header.specs.Versions.{isStrict}
 use Rattle.fat.specs.Lists.{roomOf}
-use Rattle.alloc.specs.Opening.{Tables, shortest}
-use Rattle.alloc.specs.Opened.{padded}
+use Rattle.alloc.specs.Opening.{Tables, shortest, padded}
 use Rattle.agree.specs.Agrees.{FreesOnce}
 use Rattle.agree.proofs.Meaning.{agrees-exactly}
 use Rattle.walk.specs.Steps.{Sectors, Linked}

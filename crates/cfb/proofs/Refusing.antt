@@ -19,8 +19,7 @@ use Rattle.header.specs.Versions.{isStrict}
 use Rattle.fat.specs.Lists.{roomOf}
 use Rattle.judge.specs.Judge.{pointed, marksOf}
 use Rattle.judge.proofs.Judging.{mark-at, markOf}
-use Rattle.alloc.specs.Opening.{Tables, openTables, shortest}
-use Rattle.alloc.specs.Opened.{padded}
+use Rattle.alloc.specs.Opening.{Tables, openTables, shortest, padded}
 use Rattle.agree.specs.Agree.{agreement}
 use Rattle.agree.proofs.Meaning.{agrees-exactly}
 use Rattle.walk.specs.Walk.{lists, refuses}

@@ -9,8 +9,7 @@ use Rattle.lists.specs.Lists.{choose}
 use Rattle.lists.specs.Rows.{Row, row, refusal}
 use Rattle.header.specs.Versions.{lengthOf}
 use Rattle.fat.specs.Lists.{roomOf}
-use Rattle.alloc.specs.Opening.{Tables, shortest}
-use Rattle.alloc.specs.Opened.{padded}
+use Rattle.alloc.specs.Opening.{Tables, shortest, padded}
 use Rattle.agree.specs.Agree.{agreement}
 use Rattle.walk.specs.Walk.{Outcome, lists, refuses, walkOf}
 use Rattle.chain.specs.Bytes.{readCount, readBytes}

@@ -12,8 +12,7 @@ use Rattle.header.specs.Versions.{isStrict}
 use Rattle.header.specs.Read.{headerOf}
 use Rattle.fat.specs.Lists.{roomOf}
 use Rattle.judge.specs.Judge.{pointed}
-use Rattle.alloc.specs.Opening.{Tables}
-use Rattle.alloc.specs.Opened.{padded}
+use Rattle.alloc.specs.Opening.{Tables, padded}
 use Rattle.disk.specs.Disk.{countAfter}
 use Rattle.room.specs.Needed.{resizeMore, writeMore}
 use Rattle.hand.specs.Hand.{Chain}

@@ -5,8 +5,7 @@ use mathlib.Core.List.{List, []}
 use lib.Dec.{eqb}
 use lib.ListN.{length, take}
 use Rattle.lists.specs.Lists.{choose}
-use Rattle.alloc.specs.Opening.{Tables}
-use Rattle.alloc.specs.Opened.{padded}
+use Rattle.alloc.specs.Opening.{Tables, padded}
 use Rattle.walk.specs.declared.Walked.{Walked}
 use Rattle.walk.specs.declared.Walked.the-variants.{Listed, Refused}
 use Rattle.cfb.specs.Calls.{chainNo, chainIds, idsLeft}

@@ -2,9 +2,9 @@
 use crate::Answer;
 use crate::State;
 use agree::whole::agrees;
-use agree::whole::shortest;
 use alloc::early::room_of;
-use alloc::open::lesser_of;
+use alloc::open::shortest;
+use fat::load::lesser;
 use moves::change::zero_from;
 use walk::Walked;
 use walk::walk;
@@ -46,7 +46,7 @@ pub(crate) fn chain_of(
 {
     let h = s.header;
     let version = h.version;
-    let short = lesser_of(shortest(fat, fats, difats, frees, marks), ids.len());
+    let short = lesser(shortest(fat, fats, difats, frees, marks), ids.len());
     if short < room_of(version, image.len()) {
         return Walked::Refused(11);
     }

@@ -12,7 +12,7 @@ use Rattle.lists.proofs.Cases.{below-or, same-or}
 use Rattle.sectors.specs.Sectors.{startOf, sectorOf}
 use Rattle.fat.specs.Lists.{ceil}
 use Rattle.fat.proofs.Listing.{ceil-enough}
-use Rattle.alloc.specs.Opened.{padded}
+use Rattle.alloc.specs.Opening.{padded}
 use Rattle.chain.specs.Bytes.{chainBytes}
 use Rattle.stores.specs.Stores.{writeBytes, tailOf, zeroTail, Writable, Outside}
 use Rattle.chain.proofs.Bytes.{length-chain}

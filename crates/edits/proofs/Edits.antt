@@ -9,7 +9,7 @@ use lib.ListN.{length, getD, take, replicate}
 use Rattle.lists.specs.Lists.{splice}
 use Rattle.sectors.specs.Sectors.{startOf, sectorOf}
 use Rattle.fat.specs.Lists.{ceil}
-use Rattle.alloc.specs.Opened.{padded}
+use Rattle.alloc.specs.Opening.{padded}
 use Rattle.chain.specs.Bytes.{chainBytes}
 use Rattle.stores.proofs.Apart.{sector-before, sector-other}
 use Rattle.room.specs.Needed.{resizeMore, writeMore}

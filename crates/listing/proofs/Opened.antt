@@ -17,8 +17,8 @@ use Rattle.header.specs.declared.Validation.{Validation}
 use Rattle.header.specs.declared.Validation.the-variants.{Strict}
 use Rattle.fat.specs.Lists.{most, sectorsIn, roomOf}
 use Rattle.judge.specs.Judge.{forgivenFat}
-use Rattle.alloc.specs.Opening.{Tables, openFat, openTables, shortest, firstRows, openRows, openNo, leftIn}
-use Rattle.alloc.specs.Opened.{padded, tablesLeft}
+use Rattle.alloc.specs.Opening.{Tables, openFat, openTables, shortest, firstRows, openRows, openNo, leftIn, padded}
+use Rattle.alloc.specs.Opened.{tablesLeft}
 use Rattle.alloc.proofs.Filled.{front-padded}
 use Rattle.cfb.specs.Face.{numberOf, numbersOf, answer, sectorsOf, tablesOf, Opens}
 use Rattle.cfb.specs.declared.Verdict.{Verdict}

@@ -3,7 +3,7 @@ use Prim.Native.Nat.{ℕ}
 use mathlib.Core.Path.{_≡_}
 use mathlib.Core.List.{List}
 use lib.ListN.{length}
-use Rattle.alloc.specs.Opened.{padded}
+use Rattle.alloc.specs.Opening.{padded}
 use Rattle.cfb.specs.Face.{numbersOf, answer, sectorsOf, tablesOf}
 use Rattle.cfb.specs.declared.Verdict.{Verdict}
 use Rattle.listing.specs.Listing.{strictNo}

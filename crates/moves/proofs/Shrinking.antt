@@ -9,7 +9,7 @@ use lib.ListN.{length, getD, take, replicate, length-append, length-replicate, L
 use lib.Seq.{getD-take, length-take-le, take-at}
 use Rattle.lists.proofs.Cases.{below-or}
 use Rattle.consts.specs.Consts.{endOfChain}
-use Rattle.alloc.specs.Opened.{padded}
+use Rattle.alloc.specs.Opening.{padded}
 use Rattle.hand.specs.Hand.{Hand, Chain, freeRun}
 use Rattle.hand.specs.Fits.{FitsHand, FitsFrees, FitsLast, FitsChain}
 use Rattle.moves.specs.Change.{cut, shrink, idsOf, FitsShrink}

@@ -8,7 +8,7 @@ use lib.ListN.{length, take, drop, replicate, length-replicate, length-drop, dro
 use lib.Seq.{take-all, length-take-le}
 use Rattle.lists.specs.Lists.{splice}
 use Rattle.lists.proofs.Splice.{putMid-splice}
-use Rattle.alloc.specs.Opened.{padded}
+use Rattle.alloc.specs.Opening.{padded}
 
 -- zeros put over all that lies past a place
 pub zeroed-past : (xs run : List ℕ) (from : ℕ) → from < length xs → run ≡ replicate (length (take (length xs - from) (drop from xs))) 0

@@ -8,7 +8,7 @@ use lib.ListN.{length, getD, take}
 use Rattle.lists.specs.Lists.{choose}
 use Rattle.consts.specs.Consts.{endOfChain}
 use Rattle.fat.specs.Lists.{ceil}
-use Rattle.alloc.specs.Opened.{padded}
+use Rattle.alloc.specs.Opening.{padded}
 use Rattle.stores.specs.Stores.{writeBytes, zeroTail}
 use Rattle.room.specs.Needed.{resizeMore, writeMore}
 use Rattle.hand.specs.Fits.{FitsChain, FitsMore}

@@ -11,7 +11,7 @@ ghost use mathlib.Core.Path.{_≡_};
 ghost use mathlib.Core.List.{List};
 ghost use Prim.Native.Nat.{ℕ, _+_, _-_, _*_, _≤_, _<_};
 ghost use lib.ListN.{length, take};
-ghost use Rattle.alloc.specs.Opened.{padded};
+ghost use Rattle.alloc.specs.Opening.{padded};
 ghost use Rattle.fat.specs.Lists.{roomOf};
 ghost use Rattle.stores.specs.Stores.{Writable};
 ghost use Rattle.moves.specs.Change.{shrink as shrunk, seekOf, placeOf, bytesOf, editMore, editNeed, stored, edited, FitsShrink, FitsEdit};

@@ -16,8 +16,7 @@ use Rattle.header.specs.declared.Version.{Version}
 use Rattle.header.specs.declared.Version.the-variants.{V3, V4}
 use Rattle.fat.specs.Lists.{ceil}
 use Rattle.sectors.specs.Sectors.{sectorOf}
-use Rattle.alloc.specs.Opening.{Tables, openNo, shortest}
-use Rattle.alloc.specs.Opened.{padded}
+use Rattle.alloc.specs.Opening.{Tables, openNo, shortest, padded}
 use Rattle.walk.specs.Walk.{lists, walkOf}
 use Rattle.chain.specs.Bytes.{chainBytes}
 use Rattle.hand.specs.Hand.{Chain}

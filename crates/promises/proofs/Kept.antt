@@ -13,8 +13,8 @@ use Rattle.header.specs.declared.Header.{Header}
 use Rattle.header.specs.declared.Validation.{Validation}
 use Rattle.header.specs.declared.Validation.the-variants.{Strict}
 use Rattle.fat.specs.Lists.{allBelow}
-use Rattle.alloc.specs.Opening.{Tables, openTables, openNo, shortest, leftIn}
-use Rattle.alloc.specs.Opened.{padded, tablesLeft}
+use Rattle.alloc.specs.Opening.{Tables, openTables, openNo, shortest, leftIn, padded}
+use Rattle.alloc.specs.Opened.{tablesLeft}
 use Rattle.points.specs.Frees.{occurs, timesFree, anyOrder, FreesOnce}
 use Rattle.points.proofs.Freeing.{occurs-place, order-exactly}
 use Rattle.agree.specs.Agrees.{Agrees, Permuted}

@@ -27,8 +27,7 @@ use Rattle.header.specs.declared.Validation.the-variants.{Strict}
 use Rattle.header.proofs.Given.{strict}
 use Rattle.fat.specs.Lists.{sectorsIn, roomOf, difatsIn, fatsIn}
 use Rattle.judge.specs.Judge.{marksOf, freesOf}
-use Rattle.alloc.specs.Opening.{Tables, firstRows, tableRows, openFat, openTables, shortest}
-use Rattle.alloc.specs.Opened.{padded}
+use Rattle.alloc.specs.Opening.{Tables, firstRows, tableRows, openFat, openTables, shortest, padded}
 use Rattle.alloc.proofs.First.{early-passed}
 use Rattle.alloc.proofs.Filled.{front-padded, length-openFat, length-marks, length-fats, length-difats}
 use Rattle.points.specs.Frees.{FreesOnce}

@@ -14,8 +14,7 @@ use Rattle.lists.proofs.Rows.{given-none}
 use Rattle.consts.specs.Consts.{endOfChain}
 use Rattle.judge.specs.Judge.{marksOf}
 use Rattle.judge.proofs.Judging.{pointed-by}
-use Rattle.alloc.specs.Opening.{Tables}
-use Rattle.alloc.specs.Opened.{padded}
+use Rattle.alloc.specs.Opening.{Tables, padded}
 use Rattle.alloc.proofs.Filled.{front-padded, length-marks}
 use Rattle.walk.specs.Steps.{Linked, Unpointed}
 use Rattle.walk.specs.Walk.{lists, walkOf}

@@ -10,8 +10,8 @@ use Rattle.consts.specs.Consts.{freeSector}
 use Rattle.header.specs.declared.Validation.the-variants.{Strict}
 use Rattle.fat.specs.Lists.{ceil}
 use Rattle.sectors.specs.Sectors.{sectorOf}
-use Rattle.alloc.specs.Opening.{Tables, openNo, shortest}
-use Rattle.alloc.specs.Opened.{padded, tablesLeft}
+use Rattle.alloc.specs.Opening.{Tables, openNo, shortest, padded}
+use Rattle.alloc.specs.Opened.{tablesLeft}
 use Rattle.agree.specs.Agrees.{Permuted}
 use Rattle.walk.specs.Walk.{lists}
 use Rattle.chain.specs.Bytes.{chainBytes}

@@ -57,13 +57,13 @@ stopped-requires : tie.Need-stopped-requires
 stopped-requires c κs = search needs
 
 returns : tie.Need-returns
-returns c = early-no _ _ _ _ 1 _ _ (c .stopped .ensures) (c .before .before .before .read-from .ensures .header) (omega arith) (early-below _ _ _ _ (c .before .if1 .taken))
+returns c = early-no _ _ _ _ 1 _ (c .stopped .ensures) (omega arith) (early-below _ _ _ _ (c .before .if1 .taken))
 
 stopped-requires-2 : tie.Need-stopped-requires-2
 stopped-requires-2 c κs = search needs
 
 returns-2 : tie.Need-returns-2
-returns-2 c = early-no _ _ _ _ 1 _ _ (c .stopped2 .ensures) (c .before .before .before .before .read-from .ensures .header) (omega arith) (early-above _ _ _ _ (c .before .if2 .taken))
+returns-2 c = early-no _ _ _ _ 1 _ (c .stopped2 .ensures) (omega arith) (early-above _ _ _ _ (c .before .if2 .taken))
 
 number-requires : tie.Need-number-requires
 number-requires c κs = search needs
@@ -74,7 +74,7 @@ stopped-requires-3 c κs = search needs
 returns-3 : tie.Need-returns-3
 returns-3 c =
     let n = c .before .before in
-    early-no _ _ _ _ (n .number .result) _ _ (c .stopped3 .ensures) (n .before .before .before .before .read-from .ensures .header) (c .before .if3 .taken)
+    early-no _ _ _ _ (n .number .result) _ (c .stopped3 .ensures) (c .before .if3 .taken)
     (early-header _ _ _ _ (n .before .before .if1 .left) (n .before .if2 .left) _ (n .number .ensures ∙ n .before .before .before .before .read-from .ensures .number) (c .before .if3 .taken))
 
 sector-len-requires : tie.Need-sector-len-requires
@@ -89,7 +89,7 @@ stopped-requires-4 c κs = search needs
 returns-4 : tie.Need-returns-4
 returns-4 c =
     let e = c .before .before .before in
-    early-no _ _ _ _ 10 _ _ (c .stopped4 .ensures) (at-header e .read-from .ensures .header) (omega arith)
+    early-no _ _ _ _ 10 _ (c .stopped4 .ensures) (omega arith)
     (early-odd _ _ _ _ (e .before .before .before .if1 .left) (e .before .before .if2 .left) (read e) (λ z. c .before .if4 .taken (ap (λ (s : ℕ). entry3 e .args .used % s) (length-is (c .before .before)) ∙ z)))
 
 div-n : tie.Need-div-n
@@ -105,7 +105,7 @@ returns-5 : tie.Need-returns-5
 returns-5 c =
     let w = c .before .before in
     let e = w .before .before in
-    early-no _ _ _ _ 10 _ _ (c .stopped5 .ensures) (at-header e .read-from .ensures .header) (omega arith)
+    early-no _ _ _ _ 10 _ (c .stopped5 .ensures) (omega arith)
     (early-many _ _ _ _ (e .before .before .before .if1 .left) (e .before .before .if2 .left) (read e) (rw (count w) at (c .before .if5 .taken)))
 
 room-requires : tie.Need-room-requires
@@ -119,7 +119,7 @@ returns-6 c =
     let f = c .before .before .before in
     let w = f .before in
     let e = w .before .before in
-    early-no _ _ _ _ 11 _ _ (c .stopped6 .ensures) (at-header e .read-from .ensures .header) (omega arith)
+    early-no _ _ _ _ 11 _ (c .stopped6 .ensures) (omega arith)
     (early-short _ _ _ _ (e .before .before .before .if1 .left) (e .before .before .if2 .left) (read e) (whole w) (rw (count w) at (f .if5 .left)) (rw (room-is (c .before .before)) at (c .before .if6 .taken)))
 
 returns-7 : tie.Need-returns-7
@@ -131,7 +131,7 @@ returns-7 c =
       number = early-passed _ _ _ _ (e .before .before .before .if1 .left) (e .before .before .if2 .left) (read e) (whole w) (rw (count w) at (f .if5 .left)) (rw (room-is (c .before)) at (c .if6 .left));
       len = length-is (w .before);
       sectors = count w;
-      header = at-header e .read-from .ensures .header;
+      header = read-header _ _ _ (at-header e .read-from .ensures) (read e);
     }
 
 pub judge-early-spec : {M : Type 1} → statement M

@@ -28,8 +28,8 @@ abbrev tables : tie.After-room-of → Tables
 tables c = record { fat = begun c .args .fat .now; fats = begun c .args .fats .now; difats = begun c .args .difats .now; frees = begun c .args .frees .now; marks = begun c .args .marks .now }
 
 -- the shortest of all, and the room, are those of the row
-short-is : (c : tie.After-room-of) → c .before .lesser-of .result ≡ min (shortest (tables c)) (length (begun c .args .ids .now))
-short-is c = c .before .lesser-of .ensures ∙ ap (λ (n : ℕ). min n (length (begun c .args .ids .now))) (c .before .before .shortest .ensures)
+short-is : (c : tie.After-room-of) → c .before .lesser .result ≡ min (shortest (tables c)) (length (begun c .args .ids .now))
+short-is c = c .before .lesser .ensures .2 ∙ ap (λ (n : ℕ). min n (length (begun c .args .ids .now))) (c .before .before .shortest .ensures)
 
 -- where the agreement is known
 abbrev asked : tie.After-agrees → tie.After-room-of
@@ -61,8 +61,8 @@ walkable c e =
 shortest-requires : tie.Need-shortest-requires
 shortest-requires c κs = search needs
 
-lesser-of-requires : tie.Need-lesser-of-requires
-lesser-of-requires c κs = search needs
+lesser-requires : tie.Need-lesser-requires
+lesser-requires c κs = search needs
 
 room-of-requires : tie.Need-room-of-requires
 room-of-requires c κs = search needs
@@ -110,7 +110,7 @@ chain-of-spec =
     tie.close
     (tie.spec
     shortest-requires
-    lesser-of-requires
+    lesser-requires
     room-of-requires
     returns
     agrees-requires
