@@ -28,7 +28,7 @@ use Rattle.cfb.proofs.Ready.{agrees, strict-mode}
 use Rattle.promises.specs.Coded.{Coded}
 use Rattle.promises.specs.Tails.{Tailed}
 use Rattle.promises.specs.Whole.{Formed}
-use Rattle.promises.proofs.Calls.{edit-rows, edit-roles, edit-leaves, resize-fits, resize-forms, write-fits, write-forms}
+use Rattle.promises.proofs.Calls.{edit-rows, edit-roles, edit-leaves, edit-forms, resize-fits, write-fits}
 use Rattle.promises.proofs.Coding.{coded-resized, coded-written}
 use Rattle.promises.proofs.Encoding.{coded-list}
 use Rattle.promises.proofs.Reopening.{Alike, Headed, headed, before-headed, before-coded, before-tailed, reopens-at}
@@ -97,7 +97,7 @@ module _ (s : State) (img : List ℕ) (t : Tables) (room start : ℕ) where
           fits = resized-fits (stateLen s) R len before f;
           long = resized-long (stateLen s) R len before f .hand .disk .image-same;
           leaves = edit-leaves s img t room start (Resize len) [] z;
-          formed = resize-forms s img t room start len z;
+          formed = edit-forms s img t room start (Resize len) [] z;
           coded = coded-resized (stateLen s) R len before f r (before-coded s img t room start a);
           tailed = tailed-resized (stateLen s) R len before f (before-tailed s img t room start a);
         }
@@ -130,7 +130,7 @@ module _ (s : State) (img : List ℕ) (t : Tables) (room start : ℕ) where
           fits = written-fits (stateLen s) R offset buf before f;
           long = written-long (stateLen s) R offset buf before f .hand .disk .image-same;
           leaves = edit-leaves s img t room start (Write offset) buf z;
-          formed = write-forms s img t room start offset buf z;
+          formed = edit-forms s img t room start (Write offset) buf z;
           coded = coded-written (stateLen s) R offset buf before f r (before-coded s img t room start a);
           tailed = tailed-written (stateLen s) R offset buf before f (before-tailed s img t room start a);
         }

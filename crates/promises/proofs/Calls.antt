@@ -1,22 +1,19 @@
 -- What an accepted edit, a resize or a write, does to its chain and to the rest of the image: the edit, and nothing else. Assumes nothing.
-use Prim.Native.Nat.{ℕ, _+_, _*_, _≤_, _<_}
+use Prim.Native.Nat.{ℕ, _+_, _≤_, _<_}
 use mathlib.Core.Path.{_≡_, _∙_, ap}
-use mathlib.Core.List.{List, [], _++_}
+use mathlib.Core.List.{List, []}
 use native.Mathlib.Omega.{arith}
-use lib.ListN.{length, getD, take, replicate}
-use Rattle.lists.specs.Lists.{splice}
+use lib.ListN.{length, getD}
 use Rattle.sectors.specs.Sectors.{startOf}
-use Rattle.fat.specs.Lists.{roomOf, ceil}
-use Rattle.alloc.specs.Opening.{Tables, padded}
+use Rattle.fat.specs.Lists.{roomOf}
+use Rattle.alloc.specs.Opening.{Tables}
 use Rattle.walk.specs.Walk.{lists, walkOf}
 use Rattle.chain.specs.Bytes.{chainBytes}
 use Rattle.hand.specs.Hand.{Chain}
-use Rattle.room.specs.Needed.{writeMore}
-use Rattle.moves.specs.Change.{resized, written, edited, idsOf, FitsResize, FitsWrite, FitsEdit}
+use Rattle.moves.specs.Change.{edited, idsOf, FitsResize, FitsWrite, FitsEdit}
 use Rattle.moves.specs.declared.change.Edit.{Edit}
 use Rattle.moves.specs.declared.change.Edit.the-variants.{Write, Resize}
 use Rattle.moves.proofs.Editing.{edit-write, edit-resize, edited-fits}
-use Rattle.moves.proofs.Changing.{resized-fits, written-fits}
 use Rattle.edits.specs.Roles.{Roles}
 use Rattle.edits.specs.Untouched.{UnnamedFrom, Unlisted, Others}
 use Rattle.edits.proofs.Joining.{sector-past}
@@ -28,7 +25,9 @@ use Rattle.cfb.specs.Changes.{changeNo, resizeRows, resizeNo, writeRows, writeN
 use Rattle.cfb.specs.declared.State.{State}
 use Rattle.cfb.proofs.Judging.{rows-passed}
 use Rattle.cfb.proofs.Changing.{edit-ready}
-use Rattle.promises.specs.Whole.{Formed, fatHeld}
+use Rattle.promises.specs.Demand.{bytesAfter}
+use Rattle.promises.specs.Tails.{Blank}
+use Rattle.promises.specs.Whole.{Formed, Held, fatHeld}
 use Rattle.promises.proofs.Base.{roles-of}
 use Rattle.promises.proofs.Graph.{held-resized, held-written}
 use Rattle.promises.proofs.Growing.{formed-resized, formed-written}
@@ -37,6 +36,28 @@ use Rattle.promises.proofs.Walks.{before-ids, held-of, formed-of, blank
 -- document 01, Walk: the ids of a chain in hand are what the walk of its FAT lists, from the start that a change answers
 abbrev pub Walks : Chain → Type 0
 Walks c = walkOf (fatHeld (c .hand .disk)) (startIn (c .ids) (c .count)) ≡ lists (idsOf c)
+
+-- what holds of a chain resized and of one written, once over the edit: its bytes,
+edited-bytes : (S R : ℕ) (e : Edit) (buf : List ℕ) (c : Chain) → FitsEdit S R e (length buf) c → Roles S R c
+    → chainBytes S (edited S c e buf .hand .disk .image) (idsOf (edited S c e buf)) ≡ bytesAfter S e buf (chainBytes S (c .hand .disk .image) (idsOf c)) (c .count)
+edited-bytes S R (Write offset) buf c f r = written-bytes S R offset buf c (edit-write S R offset (length buf) c f) r
+edited-bytes S R (Resize len) buf c f r = resized-bytes S R len c (edit-resize S R len (length buf) c f) r
+
+-- those of other sectors,
+edited-others : (S R : ℕ) (e : Edit) (buf : List ℕ) (c : Chain) → FitsEdit S R e (length buf) c → Roles S R c → (others : List ℕ) → Others S c others
+    → chainBytes S (edited S c e buf .hand .disk .image) others ≡ chainBytes S (c .hand .disk .image) others
+edited-others S R (Write offset) buf c f r = written-others S R offset buf c (edit-write S R offset (length buf) c f) r
+edited-others S R (Resize len) buf c f r = resized-others S R len c (edit-resize S R len (length buf) c f) r
+
+-- that it is a chain of the FAT,
+edited-held : (S R : ℕ) (e : Edit) (buf : List ℕ) (c : Chain) → FitsEdit S R e (length buf) c → Roles S R c → Formed S (c .hand) → Held c → Held (edited S c e buf)
+edited-held S R (Write offset) buf c f r w h = held-written S R offset buf c (edit-write S R offset (length buf) c f) r w h
+edited-held S R (Resize len) buf c f r w h = held-resized S R len c (edit-resize S R len (length buf) c f) r w h
+
+-- and that its tables are well formed
+edited-formed : (S R : ℕ) (e : Edit) (buf : List ℕ) (c : Chain) → FitsEdit S R e (length buf) c → Roles S R c → Held c → Formed S (c .hand) → Blank (c .hand) → Formed S (edited S c e buf .hand)
+edited-formed S R (Write offset) buf c f r h w b = formed-written S R offset buf c (edit-write S R offset (length buf) c f) r h w b .0
+edited-formed S R (Resize len) buf c f r h w b = formed-resized S R len c (edit-resize S R len (length buf) c f) r h w b .0
 
 module _ (s : State) (img : List ℕ) (t : Tables) (room start : ℕ) where
   -- the chain before a change, and the bytes of a chain in hand
@@ -63,8 +84,33 @@ module _ (s : State) (img : List ℕ) (t : Tables) (room start : ℕ) where
     pub edit-roles : Roles (stateLen s) (roomOf (stateLen s) (length img)) before
     edit-roles = roles-of s img t room start (edit-rows e (length buf) z)
 
-    edit-fits : FitsEdit (stateLen s) (roomOf (stateLen s) (length img)) e (length buf) before
+    pub edit-fits : FitsEdit (stateLen s) (roomOf (stateLen s) (length img)) e (length buf) before
     edit-fits = edit-ready s img t room start e (length buf) z
+
+    -- document 01, Write and Resize: the chain has its old bytes, edited as asked and in no other way
+    pub edit-bytes : bytesOf after ≡ bytesAfter (stateLen s) e buf (chainBytes (stateLen s) img (chainIds s t start)) (length (chainIds s t start))
+    unfolding chainFrom
+    edit-bytes =
+        edited-bytes (stateLen s) _ e buf before edit-fits edit-roles
+        ∙ ap (λ (old : List ℕ). bytesAfter (stateLen s) e buf old (length (chainIds s t start))) before-bytes
+
+    -- sectors that are neither of the FAT, of the DIFAT, of the chain nor FREE keep their bytes
+    pub edit-keeps : (others : List ℕ) → Others (stateLen s) before others → chainBytes (stateLen s) (after .hand .disk .image) others ≡ chainBytes (stateLen s) img others
+    unfolding chainFrom
+    edit-keeps others o = edited-others (stateLen s) _ e buf before edit-fits edit-roles others o
+
+    -- the ids that it leaves are the walk of the FAT that it leaves
+    pub edit-walks : Walks after
+    edit-walks =
+        let rows = edit-rows e (length buf) z in
+        held-walk (stateLen s) _ after (edited-fits (stateLen s) _ e buf before edit-fits)
+        (edited-held (stateLen s) _ e buf before edit-fits edit-roles (formed-of s img t room start rows) (held-of s img t room start rows))
+
+    -- document 01, 12 and 14 to 18: the tables that it leaves are well formed
+    pub edit-forms : Formed (stateLen s) (after .hand)
+    edit-forms =
+        let rows = edit-rows e (length buf) z in
+        edited-formed (stateLen s) _ e buf before edit-fits edit-roles (held-of s img t room start rows) (formed-of s img t room start rows) (blank-of s img t room start rows)
 
     -- document 01: a byte that is none of the header's that are named for it, and in no sector of the FAT, the DIFAT or the chain after it, stays
     pub edit-leaves : (b : ℕ) → UnnamedFrom (stateLen s) (before .hand .disk) (after .hand .disk) b → Unlisted (stateLen s) after b → getD (after .hand .disk .image) b 0 ≡ getD img b 0
@@ -88,57 +134,9 @@ module _ (s : State) (img : List ℕ) (t : Tables) (room start : ℕ) where
   -- an accepted resize
   module _ (len : ℕ) (z : resizeNo s img t room start len ≡ 0) where
     pub resize-fits : FitsResize (stateLen s) (roomOf (stateLen s) (length img)) len before
-    resize-fits = edit-resize (stateLen s) _ len 0 before (edit-ready s img t room start (Resize len) 0 z)
-
-    -- document 01, Resize: the chain has its old bytes below the new length, and zeros from there to the end of its sectors
-    pub resize-edits : bytesOf (resized (stateLen s) before len) ≡ padded (take len (chainBytes (stateLen s) img (chainIds s t start))) (stateLen s * ceil len (stateLen s))
-    resize-edits =
-        resized-bytes (stateLen s) _ len before resize-fits (edit-roles (Resize len) [] z)
-        ∙ ap (λ (old : List ℕ). padded (take len old) (stateLen s * ceil len (stateLen s))) before-bytes
-
-    -- sectors that are neither of the FAT, of the DIFAT, of the chain nor FREE keep their bytes
-    pub resize-keeps : (others : List ℕ) → Others (stateLen s) before others → chainBytes (stateLen s) (resized (stateLen s) before len .hand .disk .image) others ≡ chainBytes (stateLen s) img others
-    unfolding chainFrom
-    resize-keeps others o = resized-others (stateLen s) _ len before resize-fits (edit-roles (Resize len) [] z) others o
-
-    -- the ids that it leaves are the walk of the FAT that it leaves
-    pub resize-walks : Walks (resized (stateLen s) before len)
-    resize-walks =
-        held-walk (stateLen s) _ (resized (stateLen s) before len) (resized-fits (stateLen s) _ len before resize-fits)
-        (held-resized (stateLen s) _ len before resize-fits (edit-roles (Resize len) [] z) (formed-of s img t room start (edit-rows (Resize len) 0 z)) (held-of s img t room start (edit-rows (Resize len) 0 z)))
-
-    -- document 01, 12 and 14 to 18: the tables that it leaves are well formed
-    pub resize-forms : Formed (stateLen s) (resized (stateLen s) before len .hand)
-    resize-forms =
-        formed-resized (stateLen s) _ len before resize-fits (edit-roles (Resize len) [] z) (held-of s img t room start (edit-rows (Resize len) 0 z)) (formed-of s img t room start (edit-rows (Resize len) 0 z))
-        (blank-of s img t room start (edit-rows (Resize len) 0 z)) .0
+    resize-fits = edit-resize (stateLen s) _ len 0 before (edit-fits (Resize len) [] z)
 
   -- an accepted write
   module _ (offset : ℕ) (buf : List ℕ) (z : writeNo s img t room start offset (length buf) ≡ 0) where
-    abbrev more : ℕ
-    more = writeMore (stateLen s) (length (chainIds s t start)) offset (length buf)
-
     pub write-fits : FitsWrite (stateLen s) (roomOf (stateLen s) (length img)) offset (length buf) before
-    write-fits = edit-write (stateLen s) _ offset (length buf) before (edit-ready s img t room start (Write offset) (length buf) z)
-
-    -- document 01, Write: the chain has its old bytes, zeros past its old end, and the buffer over them from the offset on
-    pub write-edits : bytesOf (written (stateLen s) before offset buf) ≡ splice (chainBytes (stateLen s) img (chainIds s t start) ++ replicate (stateLen s * more) 0) offset buf
-    unfolding chainFrom
-    write-edits =
-        written-bytes (stateLen s) _ offset buf before write-fits (edit-roles (Write offset) buf z)
-        ∙ ap (λ (old : List ℕ). splice (old ++ replicate (stateLen s * more) 0) offset buf) before-bytes
-
-    pub write-keeps : (others : List ℕ) → Others (stateLen s) before others → chainBytes (stateLen s) (written (stateLen s) before offset buf .hand .disk .image) others ≡ chainBytes (stateLen s) img others
-    unfolding chainFrom
-    write-keeps others o = written-others (stateLen s) _ offset buf before write-fits (edit-roles (Write offset) buf z) others o
-
-    -- the ids that it leaves are the walk of the FAT that it leaves, which is well formed
-    pub write-walks : Walks (written (stateLen s) before offset buf)
-    write-walks =
-        held-walk (stateLen s) _ (written (stateLen s) before offset buf) (written-fits (stateLen s) _ offset buf before write-fits)
-        (held-written (stateLen s) _ offset buf before write-fits (edit-roles (Write offset) buf z) (formed-of s img t room start (edit-rows (Write offset) (length buf) z)) (held-of s img t room start (edit-rows (Write offset) (length buf) z)))
-
-    pub write-forms : Formed (stateLen s) (written (stateLen s) before offset buf .hand)
-    write-forms =
-        formed-written (stateLen s) _ offset buf before write-fits (edit-roles (Write offset) buf z) (held-of s img t room start (edit-rows (Write offset) (length buf) z)) (formed-of s img t room start (edit-rows (Write offset) (length buf) z))
-        (blank-of s img t room start (edit-rows (Write offset) (length buf) z)) .0
+    write-fits = edit-write (stateLen s) _ offset (length buf) before (edit-fits (Write offset) buf z)

@@ -31,7 +31,7 @@ use Rattle.cfb.proofs.Refusing.{padded-front}
 use Rattle.promises.specs.Demand.{InHand, Asked, write, free, askedNo, chainNamed, chainAfter, handOf, after, Call, afterAll, opened, idsFrom, bytesFrom, bytesAfter, Elsewhere, Another, Promised}
 use Rattle.promises.specs.Whole.{fatHeld}
 use Rattle.promises.proofs.After.{AgreesAfter, resize-agrees, resize-strict, resize-len, write-agrees, write-strict, write-len}
-use Rattle.promises.proofs.Calls.{Walks, edit-rows, resize-fits, resize-walks, resize-edits, resize-keeps, write-fits, write-walks, write-edits, write-keeps}
+use Rattle.promises.proofs.Calls.{Walks, edit-rows, edit-bytes, edit-keeps, edit-walks, resize-fits, write-fits}
 use Rattle.promises.proofs.Naming.{first-named, resize-stays, resize-gone, write-stays, write-longer}
 use Rattle.promises.proofs.Others.{Absent, resize-others-walk, resize-others-bytes, write-others-walk, write-others-bytes}
 use Rattle.promises.proofs.Kept.{Sure, sure-fresh, opened-sure}
@@ -150,13 +150,13 @@ write-done h room start offset buf z =
       strict = write-strict (h .state) (h .image) (h .tables) room start offset buf z;
       agrees = write-agrees (h .state) (h .image) (h .tables) room start offset buf z;
       len = write-len (h .state) (h .image) (h .tables) room start offset buf z;
-      walks = write-walks (h .state) (h .image) (h .tables) room start offset buf z;
+      walks = edit-walks (h .state) (h .image) (h .tables) room start (Write offset) buf z;
       count = chain-listed (stateLen (h .state)) _ _ (written-fits (stateLen (h .state)) _ offset buf _ (write-fits (h .state) (h .image) (h .tables) room start offset buf z));
       first = first-named (h .state) (h .image) (h .tables) room start (edit-rows (h .state) (h .image) (h .tables) room start (Write offset) (length buf) z);
       stays = λ p a b. write-stays (h .state) (h .image) (h .tables) room start offset buf z p a;
       gone = λ p a b. absurd (omega (arith, a, b, write-longer (h .state) (h .image) (h .tables) room start offset buf z));
-      bytes = write-edits (h .state) (h .image) (h .tables) room start offset buf z;
-      keeps = write-keeps (h .state) (h .image) (h .tables) room start offset buf z;
+      bytes = edit-bytes (h .state) (h .image) (h .tables) room start (Write offset) buf z;
+      keeps = edit-keeps (h .state) (h .image) (h .tables) room start (Write offset) buf z;
       others = write-others-walk (h .state) (h .image) (h .tables) room start offset buf z;
       others-bytes = write-others-bytes (h .state) (h .image) (h .tables) room start offset buf z;
     }
@@ -167,13 +167,13 @@ resize-done h room start len buf z =
       strict = resize-strict (h .state) (h .image) (h .tables) room start len z;
       agrees = resize-agrees (h .state) (h .image) (h .tables) room start len z;
       len = resize-len (h .state) (h .image) (h .tables) room start len z;
-      walks = resize-walks (h .state) (h .image) (h .tables) room start len z;
+      walks = edit-walks (h .state) (h .image) (h .tables) room start (Resize len) buf z;
       count = chain-listed (stateLen (h .state)) _ _ (resized-fits (stateLen (h .state)) _ len _ (resize-fits (h .state) (h .image) (h .tables) room start len z));
       first = first-named (h .state) (h .image) (h .tables) room start (edit-rows (h .state) (h .image) (h .tables) room start (Resize len) 0 z);
       stays = resize-stays (h .state) (h .image) (h .tables) room start len z;
       gone = resize-gone (h .state) (h .image) (h .tables) room start len z;
-      bytes = resize-edits (h .state) (h .image) (h .tables) room start len z;
-      keeps = resize-keeps (h .state) (h .image) (h .tables) room start len z;
+      bytes = edit-bytes (h .state) (h .image) (h .tables) room start (Resize len) buf z;
+      keeps = edit-keeps (h .state) (h .image) (h .tables) room start (Resize len) buf z;
       others = resize-others-walk (h .state) (h .image) (h .tables) room start len z;
       others-bytes = resize-others-bytes (h .state) (h .image) (h .tables) room start len z;
     }

@@ -1,7 +1,7 @@
 -- The chain that an edit names is still the same chain after it: it keeps its first sectors, and those that it has no more are FREE. Assumes nothing.
 use Prim.Native.Nat.{ℕ, _+_, _-_, _≤_, _<_}
 use mathlib.Core.Path.{_≡_, refl, sym, _∙_, ap}
-use mathlib.Core.List.{List}
+use mathlib.Core.List.{List, []}
 use mathlib.Core.Logic.{⊎-elim}
 use native.Mathlib.Omega.{arith}
 use lib.ListN.{length, getD, take}
@@ -18,6 +18,7 @@ use Rattle.hand.specs.Fits.{FitsChain}
 use Rattle.moves.specs.Change.{withImage, resized, written, FitsResize, FitsWrite}
 use Rattle.moves.proofs.Shrinking.{shrink-free}
 use Rattle.moves.proofs.Changing.{resized-more, resized-fewer, resize-shrink, resized-fits, resized-count, written-count}
+use Rattle.moves.specs.declared.change.Edit.the-variants.{Resize}
 use Rattle.edits.proofs.Edits.{ids-stay, ids-kept, resized-freed}
 use Rattle.cfb.specs.Calls.{stateLen, walked, outcomeIds, chainIds}
 use Rattle.cfb.specs.Changes.{changeNo, resizeNo, writeNo, chainFrom}
@@ -26,7 +27,7 @@ use Rattle.cfb.proofs.Refusing.{padded-front}
 use Rattle.promises.specs.Whole.{Formed, fatHeld}
 use Rattle.promises.proofs.Base.{roles-of}
 use Rattle.promises.proofs.Graph.{held-length}
-use Rattle.promises.proofs.Calls.{resize-fits, resize-forms, write-fits}
+use Rattle.promises.proofs.Calls.{edit-forms, resize-fits, write-fits}
 
 -- document 01, Resize: the chain keeps its first sectors, as many as it has before and after
 pub resized-stay : (S R len : ℕ) (c : Chain) → FitsResize S R len c → (p : ℕ) → p < c .count → p < resized S c len .count → getD (resized S c len .ids) p 0 ≡ getD (c .ids) p 0
@@ -90,7 +91,7 @@ module _ (s : State) (img : List ℕ) (t : Tables) (room start : ℕ) where
     pub resize-gone : (p : ℕ) → p < length (chainIds s t start) → resized (stateLen s) before len .count ≤ p → getD (resized (stateLen s) before len .hand .disk .fat) (getD (chainIds s t start) p 0) 0 ≡ freeSector
     resize-gone p a b =
         ap (λ (x : ℕ). getD (resized (stateLen s) before len .hand .disk .fat) x 0) (sym (before-at p a))
-        ∙ resized-gone (stateLen s) _ len before (resize-fits s img t room start len z) (resize-forms s img t room start len z) p (rw before-count a) b
+        ∙ resized-gone (stateLen s) _ len before (resize-fits s img t room start len z) (edit-forms s img t room start (Resize len) [] z) p (rw before-count a) b
 
   -- an accepted write
   module _ (offset : ℕ) (buf : List ℕ) (z : writeNo s img t room start offset (length buf) ≡ 0) where

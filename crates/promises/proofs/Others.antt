@@ -1,7 +1,7 @@
 -- An accepted change leaves every other chain its sectors, in their order, and their bytes. Assumes nothing.
 use Prim.Native.Nat.{ℕ, zero, suc, _-_, _≤_, _<_}
 use mathlib.Core.Path.{_≡_, refl, _∙_, sym, ap}
-use mathlib.Core.List.{List}
+use mathlib.Core.List.{List, []}
 use mathlib.Core.Logic.{⊎-elim, _≢_}
 use native.Mathlib.Omega.{arith}
 use lib.ListN.{length, getD, take, List·getD-eq-default}
@@ -32,7 +32,7 @@ use Rattle.cfb.specs.declared.State.{State}
 use Rattle.cfb.proofs.Refusing.{padded-front}
 use Rattle.promises.specs.Whole.{Formed, Held, fatHeld}
 use Rattle.promises.proofs.Base.{roles-of}
-use Rattle.promises.proofs.Calls.{edit-rows, resize-fits, resize-keeps, write-fits, write-keeps}
+use Rattle.promises.proofs.Calls.{edit-rows, edit-keeps, resize-fits, write-fits}
 use Rattle.promises.proofs.Entries.{point-others, free-run-others, take-taken}
 use Rattle.promises.proofs.Graph.{held-strung, held-length}
 use Rattle.promises.proofs.Parts.{Listings, formed-listings}
@@ -274,7 +274,7 @@ module _ (s : State) (img : List ℕ) (t : Tables) (room start : ℕ) where
     -- and they have the same bytes
     pub resize-others-bytes : (x : ℕ) (ys : List ℕ) → Absent (chainIds s t start) x → walkOf (take (s .sectors) (t .fat)) x ≡ lists ys
         → chainBytes (stateLen s) (resized (stateLen s) before len .hand .disk .image) ys ≡ chainBytes (stateLen s) img ys
-    resize-others-bytes x ys a walk = resize-keeps s img t room start len z ys (others-before (edit-rows s img t room start (Resize len) 0 z) x ys a walk)
+    resize-others-bytes x ys a walk = edit-keeps s img t room start (Resize len) [] z ys (others-before (edit-rows s img t room start (Resize len) 0 z) x ys a walk)
 
   -- an accepted write
   module _ (offset : ℕ) (buf : List ℕ) (z : writeNo s img t room start offset (length buf) ≡ 0) where
@@ -297,4 +297,4 @@ module _ (s : State) (img : List ℕ) (t : Tables) (room start : ℕ) where
     -- and they have the same bytes
     pub write-others-bytes : (x : ℕ) (ys : List ℕ) → Absent (chainIds s t start) x → walkOf (take (s .sectors) (t .fat)) x ≡ lists ys
         → chainBytes (stateLen s) (written (stateLen s) before offset buf .hand .disk .image) ys ≡ chainBytes (stateLen s) img ys
-    write-others-bytes x ys a walk = write-keeps s img t room start offset buf z ys (others-before (edit-rows s img t room start (Write offset) (length buf) z) x ys a walk)
+    write-others-bytes x ys a walk = edit-keeps s img t room start (Write offset) buf z ys (others-before (edit-rows s img t room start (Write offset) (length buf) z) x ys a walk)
