@@ -30,7 +30,7 @@ use Rattle.cfb.specs.Changes.{chainFrom, stateFrom, tablesIn, startIn}
 use Rattle.cfb.proofs.Refusing.{padded-front}
 use Rattle.promises.specs.Demand.{InHand, Asked, write, free, askedNo, chainNamed, chainAfter, handOf, after, Call, afterAll, opened, idsFrom, bytesFrom, bytesAfter, Elsewhere, Another, Promised}
 use Rattle.promises.specs.Whole.{fatHeld}
-use Rattle.promises.proofs.After.{AgreesAfter, resize-agrees, resize-strict, resize-len, write-agrees, write-strict, write-len}
+use Rattle.promises.proofs.After.{AgreesAfter, edit-agrees, edit-strict, edit-len}
 use Rattle.promises.proofs.Calls.{Walks, edit-rows, edit-bytes, edit-keeps, edit-walks, resize-fits, write-fits}
 use Rattle.promises.proofs.Naming.{first-named, resize-stays, resize-gone, write-stays, write-longer}
 use Rattle.promises.proofs.Others.{Absent, resize-others-walk, resize-others-bytes, write-others-walk, write-others-bytes}
@@ -147,9 +147,9 @@ module _ (h : InHand) (room : ℕ) (ask : Asked) (c : Chain) (xs : List ℕ) (d 
 write-done : (h : InHand) (room start offset : ℕ) (buf : List ℕ) → askedNo h room (write start offset buf) ≡ 0 → DoneAsked h room (write start offset buf)
 write-done h room start offset buf z =
     record {
-      strict = write-strict (h .state) (h .image) (h .tables) room start offset buf z;
-      agrees = write-agrees (h .state) (h .image) (h .tables) room start offset buf z;
-      len = write-len (h .state) (h .image) (h .tables) room start offset buf z;
+      strict = edit-strict (h .state) (h .image) (h .tables) room start (Write offset) buf z;
+      agrees = edit-agrees (h .state) (h .image) (h .tables) room start (Write offset) buf z;
+      len = edit-len (h .state) (h .image) (h .tables) room start (Write offset) buf z;
       walks = edit-walks (h .state) (h .image) (h .tables) room start (Write offset) buf z;
       count = chain-listed (stateLen (h .state)) _ _ (written-fits (stateLen (h .state)) _ offset buf _ (write-fits (h .state) (h .image) (h .tables) room start offset buf z));
       first = first-named (h .state) (h .image) (h .tables) room start (edit-rows (h .state) (h .image) (h .tables) room start (Write offset) (length buf) z);
@@ -164,9 +164,9 @@ write-done h room start offset buf z =
 resize-done : (h : InHand) (room start len : ℕ) (buf : List ℕ) → askedNo h room (asked start (Resize len) buf) ≡ 0 → DoneAsked h room (asked start (Resize len) buf)
 resize-done h room start len buf z =
     record {
-      strict = resize-strict (h .state) (h .image) (h .tables) room start len z;
-      agrees = resize-agrees (h .state) (h .image) (h .tables) room start len z;
-      len = resize-len (h .state) (h .image) (h .tables) room start len z;
+      strict = edit-strict (h .state) (h .image) (h .tables) room start (Resize len) buf z;
+      agrees = edit-agrees (h .state) (h .image) (h .tables) room start (Resize len) buf z;
+      len = edit-len (h .state) (h .image) (h .tables) room start (Resize len) buf z;
       walks = edit-walks (h .state) (h .image) (h .tables) room start (Resize len) buf z;
       count = chain-listed (stateLen (h .state)) _ _ (resized-fits (stateLen (h .state)) _ len _ (resize-fits (h .state) (h .image) (h .tables) room start len z));
       first = first-named (h .state) (h .image) (h .tables) room start (edit-rows (h .state) (h .image) (h .tables) room start (Resize len) 0 z);
