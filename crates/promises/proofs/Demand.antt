@@ -32,8 +32,8 @@ use Rattle.promises.specs.Demand.{InHand, Asked, write, free, askedNo, c
 use Rattle.promises.specs.Whole.{fatHeld}
 use Rattle.promises.proofs.After.{AgreesAfter, edit-agrees, edit-strict, edit-len}
 use Rattle.promises.proofs.Calls.{Walks, edit-rows, edit-bytes, edit-keeps, edit-walks, resize-fits, write-fits}
-use Rattle.promises.proofs.Naming.{first-named, resize-stays, resize-gone, write-stays, write-longer}
-use Rattle.promises.proofs.Others.{Absent, resize-others-walk, resize-others-bytes, write-others-walk, write-others-bytes}
+use Rattle.promises.proofs.Naming.{first-named, edit-stays, edit-gone}
+use Rattle.promises.proofs.Others.{Absent, edit-others-walk, edit-others-bytes}
 use Rattle.promises.proofs.Kept.{Sure, sure-fresh, opened-sure}
 
 -- what is known of an accepted call that leaves the chain c in hand, whose bytes were to become xs
@@ -153,12 +153,12 @@ write-done h room start offset buf z =
       walks = edit-walks (h .state) (h .image) (h .tables) room start (Write offset) buf z;
       count = chain-listed (stateLen (h .state)) _ _ (written-fits (stateLen (h .state)) _ offset buf _ (write-fits (h .state) (h .image) (h .tables) room start offset buf z));
       first = first-named (h .state) (h .image) (h .tables) room start (edit-rows (h .state) (h .image) (h .tables) room start (Write offset) (length buf) z);
-      stays = λ p a b. write-stays (h .state) (h .image) (h .tables) room start offset buf z p a;
-      gone = λ p a b. absurd (omega (arith, a, b, write-longer (h .state) (h .image) (h .tables) room start offset buf z));
+      stays = edit-stays (h .state) (h .image) (h .tables) room start (Write offset) buf z;
+      gone = edit-gone (h .state) (h .image) (h .tables) room start (Write offset) buf z;
       bytes = edit-bytes (h .state) (h .image) (h .tables) room start (Write offset) buf z;
       keeps = edit-keeps (h .state) (h .image) (h .tables) room start (Write offset) buf z;
-      others = write-others-walk (h .state) (h .image) (h .tables) room start offset buf z;
-      others-bytes = write-others-bytes (h .state) (h .image) (h .tables) room start offset buf z;
+      others = edit-others-walk (h .state) (h .image) (h .tables) room start (Write offset) buf z;
+      others-bytes = edit-others-bytes (h .state) (h .image) (h .tables) room start (Write offset) buf z;
     }
 
 resize-done : (h : InHand) (room start len : ℕ) (buf : List ℕ) → askedNo h room (asked start (Resize len) buf) ≡ 0 → DoneAsked h room (asked start (Resize len) buf)
@@ -170,12 +170,12 @@ resize-done h room start len buf z =
       walks = edit-walks (h .state) (h .image) (h .tables) room start (Resize len) buf z;
       count = chain-listed (stateLen (h .state)) _ _ (resized-fits (stateLen (h .state)) _ len _ (resize-fits (h .state) (h .image) (h .tables) room start len z));
       first = first-named (h .state) (h .image) (h .tables) room start (edit-rows (h .state) (h .image) (h .tables) room start (Resize len) 0 z);
-      stays = resize-stays (h .state) (h .image) (h .tables) room start len z;
-      gone = resize-gone (h .state) (h .image) (h .tables) room start len z;
+      stays = edit-stays (h .state) (h .image) (h .tables) room start (Resize len) buf z;
+      gone = edit-gone (h .state) (h .image) (h .tables) room start (Resize len) buf z;
       bytes = edit-bytes (h .state) (h .image) (h .tables) room start (Resize len) buf z;
       keeps = edit-keeps (h .state) (h .image) (h .tables) room start (Resize len) buf z;
-      others = resize-others-walk (h .state) (h .image) (h .tables) room start len z;
-      others-bytes = resize-others-bytes (h .state) (h .image) (h .tables) room start len z;
+      others = edit-others-walk (h .state) (h .image) (h .tables) room start (Resize len) buf z;
+      others-bytes = edit-others-bytes (h .state) (h .image) (h .tables) room start (Resize len) buf z;
     }
 
 edit-done : (h : InHand) (room start : ℕ) (e : Edit) (buf : List ℕ) → askedNo h room (asked start e buf) ≡ 0 → DoneAsked h room (asked start e buf)

@@ -1,7 +1,7 @@
 -- The chain that an edit names is still the same chain after it: it keeps its first sectors, and those that it has no more are FREE. Assumes nothing.
 use Prim.Native.Nat.{ℕ, _+_, _-_, _≤_, _<_}
 use mathlib.Core.Path.{_≡_, refl, sym, _∙_, ap}
-use mathlib.Core.List.{List, []}
+use mathlib.Core.List.{List}
 use mathlib.Core.Logic.{⊎-elim}
 use native.Mathlib.Omega.{arith}
 use lib.ListN.{length, getD, take}
@@ -15,19 +15,21 @@ use Rattle.walk.specs.Walk.{Outcome, lists, refuses}
 use Rattle.walk.proofs.Chains.{getD-any, lists-exactly}
 use Rattle.hand.specs.Hand.{Chain}
 use Rattle.hand.specs.Fits.{FitsChain}
-use Rattle.moves.specs.Change.{withImage, resized, written, FitsResize, FitsWrite}
+use Rattle.moves.specs.Change.{withImage, resized, written, edited, FitsResize, FitsWrite, FitsEdit}
+use Rattle.moves.specs.declared.change.Edit.{Edit}
+use Rattle.moves.specs.declared.change.Edit.the-variants.{Write, Resize}
 use Rattle.moves.proofs.Shrinking.{shrink-free}
 use Rattle.moves.proofs.Changing.{resized-more, resized-fewer, resize-shrink, resized-fits, resized-count, written-count}
-use Rattle.moves.specs.declared.change.Edit.the-variants.{Resize}
+use Rattle.moves.proofs.Editing.{edit-write, edit-resize}
 use Rattle.edits.proofs.Edits.{ids-stay, ids-kept, resized-freed}
 use Rattle.cfb.specs.Calls.{stateLen, walked, outcomeIds, chainIds}
-use Rattle.cfb.specs.Changes.{changeNo, resizeNo, writeNo, chainFrom}
+use Rattle.cfb.specs.Changes.{changeNo, editNo, chainFrom}
 use Rattle.cfb.specs.declared.State.{State}
 use Rattle.cfb.proofs.Refusing.{padded-front}
 use Rattle.promises.specs.Whole.{Formed, fatHeld}
 use Rattle.promises.proofs.Base.{roles-of}
 use Rattle.promises.proofs.Graph.{held-length}
-use Rattle.promises.proofs.Calls.{edit-forms, resize-fits, write-fits}
+use Rattle.promises.proofs.Calls.{edit-fits, edit-forms}
 
 -- document 01, Resize: the chain keeps its first sectors, as many as it has before and after
 pub resized-stay : (S R len : ℕ) (c : Chain) → FitsResize S R len c → (p : ℕ) → p < c .count → p < resized S c len .count → getD (resized S c len .ids) p 0 ≡ getD (c .ids) p 0
@@ -71,6 +73,18 @@ pub written-stay : (S R offset : ℕ) (buf : List ℕ) (c : Chain) → FitsWrite
 unfolding written withImage
 written-stay S R offset buf c f p a = ids-stay S R (writeMore S (c .count) offset (length buf)) c (f .fits) p a
 
+-- either, by the edit: the chain keeps its first sectors,
+edited-stay : (S R : ℕ) (e : Edit) (buf : List ℕ) (c : Chain) → FitsEdit S R e (length buf) c → (p : ℕ) → p < c .count → p < edited S c e buf .count
+    → getD (edited S c e buf .ids) p 0 ≡ getD (c .ids) p 0
+edited-stay S R (Write offset) buf c f p a b = written-stay S R offset buf c (edit-write S R offset (length buf) c f) p a
+edited-stay S R (Resize len) buf c f p a b = resized-stay S R len c (edit-resize S R len (length buf) c f) p a b
+
+-- and the sectors that it has no more, of which a write leaves none, are FREE
+edited-gone : (S R : ℕ) (e : Edit) (buf : List ℕ) (c : Chain) → FitsEdit S R e (length buf) c → Formed S (edited S c e buf .hand) → (p : ℕ) → p < c .count → edited S c e buf .count ≤ p
+    → getD (edited S c e buf .hand .disk .fat) (getD (c .ids) p 0) 0 ≡ freeSector
+edited-gone S R (Write offset) buf c f w p a b = absurd (omega (arith, a, b, written-count S c offset buf))
+edited-gone S R (Resize len) buf c f w p a b = resized-gone S R len c (edit-resize S R len (length buf) c f) w p a b
+
 module _ (s : State) (img : List ℕ) (t : Tables) (room start : ℕ) where
   abbrev before : Chain
   before = chainFrom s img t room start
@@ -83,23 +97,20 @@ module _ (s : State) (img : List ℕ) (t : Tables) (room start : ℕ) where
   unfolding chainFrom
   before-count = refl
 
-  -- an accepted resize
-  module _ (len : ℕ) (z : resizeNo s img t room start len ≡ 0) where
-    pub resize-stays : (p : ℕ) → p < length (chainIds s t start) → p < resized (stateLen s) before len .count → getD (resized (stateLen s) before len .ids) p 0 ≡ getD (chainIds s t start) p 0
-    resize-stays p a b = resized-stay (stateLen s) _ len before (resize-fits s img t room start len z) p (rw before-count a) b ∙ before-at p a
+  -- an accepted edit
+  module _ (e : Edit) (buf : List ℕ) (z : editNo s img t room start e (length buf) ≡ 0) where
+    abbrev after : Chain
+    after = edited (stateLen s) before e buf
 
-    pub resize-gone : (p : ℕ) → p < length (chainIds s t start) → resized (stateLen s) before len .count ≤ p → getD (resized (stateLen s) before len .hand .disk .fat) (getD (chainIds s t start) p 0) 0 ≡ freeSector
-    resize-gone p a b =
-        ap (λ (x : ℕ). getD (resized (stateLen s) before len .hand .disk .fat) x 0) (sym (before-at p a))
-        ∙ resized-gone (stateLen s) _ len before (resize-fits s img t room start len z) (edit-forms s img t room start (Resize len) [] z) p (rw before-count a) b
+    -- the chain that it names keeps its first sectors, as many as it has before and after,
+    pub edit-stays : (p : ℕ) → p < length (chainIds s t start) → p < after .count → getD (after .ids) p 0 ≡ getD (chainIds s t start) p 0
+    edit-stays p a b = edited-stay (stateLen s) _ e buf before (edit-fits s img t room start e buf z) p (rw before-count a) b ∙ before-at p a
 
-  -- an accepted write
-  module _ (offset : ℕ) (buf : List ℕ) (z : writeNo s img t room start offset (length buf) ≡ 0) where
-    pub write-stays : (p : ℕ) → p < length (chainIds s t start) → getD (written (stateLen s) before offset buf .ids) p 0 ≡ getD (chainIds s t start) p 0
-    write-stays p a = written-stay (stateLen s) _ offset buf before (write-fits s img t room start offset buf z) p (rw before-count a) ∙ before-at p a
-
-    pub write-longer : length (chainIds s t start) ≤ written (stateLen s) before offset buf .count
-    write-longer = omega (arith, written-count (stateLen s) before offset buf, before-count)
+    -- and those that it has no more are FREE
+    pub edit-gone : (p : ℕ) → p < length (chainIds s t start) → after .count ≤ p → getD (after .hand .disk .fat) (getD (chainIds s t start) p 0) 0 ≡ freeSector
+    edit-gone p a b =
+        ap (λ (x : ℕ). getD (after .hand .disk .fat) x 0) (sym (before-at p a))
+        ∙ edited-gone (stateLen s) _ e buf before (edit-fits s img t room start e buf z) (edit-forms s img t room start e buf z) p (rw before-count a) b
 
 -- ids that are listed were listed by a walk
 listed-walk : (o : Outcome) → 0 < length (outcomeIds o) → o ≡ lists (outcomeIds o)

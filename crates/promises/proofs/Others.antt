@@ -1,7 +1,7 @@
 -- An accepted change leaves every other chain its sectors, in their order, and their bytes. Assumes nothing.
 use Prim.Native.Nat.{ℕ, zero, suc, _-_, _≤_, _<_}
 use mathlib.Core.Path.{_≡_, refl, _∙_, sym, ap}
-use mathlib.Core.List.{List, []}
+use mathlib.Core.List.{List}
 use mathlib.Core.Logic.{⊎-elim, _≢_}
 use native.Mathlib.Omega.{arith}
 use lib.ListN.{length, getD, take, List·getD-eq-default}
@@ -17,22 +17,24 @@ use Rattle.chain.specs.Bytes.{chainBytes}
 use Rattle.room.specs.Needed.{resizeMore, writeMore}
 use Rattle.hand.specs.Hand.{Hand, Chain, takenId, takeSector, linked, extendOne, extend}
 use Rattle.hand.specs.Fits.{FitsChain, FitsMore}
-use Rattle.moves.specs.Change.{shrink, withImage, resized, written, FitsShrink, FitsResize, FitsWrite}
+use Rattle.moves.specs.Change.{shrink, withImage, resized, written, edited, FitsShrink, FitsResize, FitsWrite, FitsEdit}
+use Rattle.moves.specs.declared.change.Edit.{Edit}
+use Rattle.moves.specs.declared.change.Edit.the-variants.{Write, Resize}
 use Rattle.hand.proofs.Taking.{id-new, id-last, take-sectors-grow}
 use Rattle.hand.proofs.Linking.{linked-none, linked-last, one-count, one-free, one-sectors, one-fits, more-room, more-place}
 use Rattle.moves.proofs.Extending.{extend-none, extend-more}
 use Rattle.moves.proofs.Shrinking.{shrink-none, shrink-some, shrink-sectors}
 use Rattle.moves.proofs.Staying.{ready-least, one-frees-at, one-ids-at, one-ids-last}
-use Rattle.moves.proofs.Changing.{resized-more, resized-fewer, resize-shrink, resized-fits, written-fits}
+use Rattle.moves.proofs.Changing.{resized-more, resized-fewer, resize-shrink}
+use Rattle.moves.proofs.Editing.{edit-write, edit-resize, edited-fits}
 use Rattle.edits.specs.Untouched.{Others}
-use Rattle.moves.specs.declared.change.Edit.the-variants.{Write, Resize}
 use Rattle.cfb.specs.Calls.{stateLen, chainIds}
-use Rattle.cfb.specs.Changes.{changeNo, resizeNo, writeNo, chainFrom}
+use Rattle.cfb.specs.Changes.{changeNo, editNo, chainFrom}
 use Rattle.cfb.specs.declared.State.{State}
 use Rattle.cfb.proofs.Refusing.{padded-front}
 use Rattle.promises.specs.Whole.{Formed, Held, fatHeld}
 use Rattle.promises.proofs.Base.{roles-of}
-use Rattle.promises.proofs.Calls.{edit-rows, edit-keeps, resize-fits, write-fits}
+use Rattle.promises.proofs.Calls.{edit-rows, edit-fits, edit-keeps}
 use Rattle.promises.proofs.Entries.{point-others, free-run-others, take-taken}
 use Rattle.promises.proofs.Graph.{held-strung, held-length}
 use Rattle.promises.proofs.Parts.{Listings, formed-listings}
@@ -123,7 +125,7 @@ shrunk-spares : (S R m : ℕ) (c : Chain) → FitsShrink S R m c → Spares c (s
 shrunk-spares S R m c f = record { least = omega (arith, shrink-sectors S R m c f); stays = shrink-entries S R m c f }
 
 -- document 01, Resize: it leaves the entries of sectors that are neither the chain's nor FREE
-pub resized-spares : (S R len : ℕ) (c : Chain) → FitsResize S R len c → Spares c (resized S c len)
+resized-spares : (S R len : ℕ) (c : Chain) → FitsResize S R len c → Spares c (resized S c len)
 resized-spares S R len c f =
     ⊎-elim
     (λ (l : c .count < ceil len S). rw (resized-more S c len l) (extended-spares S R (resizeMore S (c .count) len) c (f .fits)))
@@ -132,10 +134,15 @@ resized-spares S R len c f =
     (below-or (c .count) (ceil len S))
 
 -- document 01, Write: and so does a write
-pub written-spares : (S R offset : ℕ) (buf : List ℕ) (c : Chain) → FitsWrite S R offset (length buf) c → Spares c (written S c offset buf)
+written-spares : (S R offset : ℕ) (buf : List ℕ) (c : Chain) → FitsWrite S R offset (length buf) c → Spares c (written S c offset buf)
 unfolding written
 written-spares S R offset buf c f =
     spares-with c (extend S c (writeMore S (c .count) offset (length buf))) _ (extended-spares S R (writeMore S (c .count) offset (length buf)) c (f .fits))
+
+-- so any edit does
+pub edited-spares : (S R : ℕ) (e : Edit) (buf : List ℕ) (c : Chain) → FitsEdit S R e (length buf) c → Spares c (edited S c e buf)
+edited-spares S R (Write offset) buf c f = written-spares S R offset buf c (edit-write S R offset (length buf) c f)
+edited-spares S R (Resize len) buf c f = resized-spares S R len c (edit-resize S R len (length buf) c f)
 
 -- The chains that begin outside the chain in hand.
 
@@ -255,46 +262,27 @@ module _ (s : State) (img : List ℕ) (t : Tables) (room start : ℕ) where
           lists-exactly (fatHeld (e .hand .disk)) x ys (omega (arith, held-length (stateLen s) R e g, g .fits .disk .inside, g .fits .disk .few)) .1
           (linked-then (stateLen s) R before before-fits (formed-of s img t room start z) (held-of s img t room start z) x ys (no-id-before x a) linked-before e g k)
 
-  -- an accepted resize
-  module _ (len : ℕ) (z : resizeNo s img t room start len ≡ 0) where
-    -- document 01, Resize: the entry of a sector that is neither FREE before nor in the chain stays
-    pub resize-entries : (x : ℕ) → x < s .sectors → getD (t .fat) x 0 ≢ freeSector → Absent (chainIds s t start) x
-        → getD (resized (stateLen s) before len .hand .disk .fat) x 0 ≡ getD (t .fat) x 0
-    unfolding chainFrom
-    resize-entries x l d a =
-        resized-spares (stateLen s) R len before (resize-fits s img t room start len z) .stays x (aloof-before (edit-rows s img t room start (Resize len) 0 z) x l d a)
+  -- an accepted edit
+  module _ (e : Edit) (buf : List ℕ) (z : editNo s img t room start e (length buf) ≡ 0) where
+    abbrev after : Chain
+    after = edited (stateLen s) before e buf
 
-    -- document 01, Resize: a walk that begins outside the chain lists the same sectors then, in the same order,
-    pub resize-others-walk : (x : ℕ) (ys : List ℕ) → Absent (chainIds s t start) x → walkOf (take (s .sectors) (t .fat)) x ≡ lists ys
-        → walkOf (fatHeld (resized (stateLen s) before len .hand .disk)) x ≡ lists ys
-    resize-others-walk x ys a walk =
-        walk-then (edit-rows s img t room start (Resize len) 0 z) x ys a walk (resized (stateLen s) before len)
-        (resized-fits (stateLen s) R len before (resize-fits s img t room start len z)) (resized-spares (stateLen s) R len before (resize-fits s img t room start len z))
+    rows : changeNo s img t room start ≡ 0
+    rows = edit-rows s img t room start e (length buf) z
+
+    after-spares : Spares before after
+    after-spares = edited-spares (stateLen s) R e buf before (edit-fits s img t room start e buf z)
+
+    -- document 01, Write and Resize: the entry of a sector that is neither FREE before nor in the chain stays
+    pub edit-entries : (x : ℕ) → x < s .sectors → getD (t .fat) x 0 ≢ freeSector → Absent (chainIds s t start) x → getD (after .hand .disk .fat) x 0 ≡ getD (t .fat) x 0
+    unfolding chainFrom
+    edit-entries x l d a = after-spares .stays x (aloof-before rows x l d a)
+
+    -- document 01, Write and Resize: a walk that begins outside the chain lists the same sectors then, in the same order,
+    pub edit-others-walk : (x : ℕ) (ys : List ℕ) → Absent (chainIds s t start) x → walkOf (take (s .sectors) (t .fat)) x ≡ lists ys → walkOf (fatHeld (after .hand .disk)) x ≡ lists ys
+    edit-others-walk x ys a walk = walk-then rows x ys a walk after (edited-fits (stateLen s) R e buf before (edit-fits s img t room start e buf z)) after-spares
 
     -- and they have the same bytes
-    pub resize-others-bytes : (x : ℕ) (ys : List ℕ) → Absent (chainIds s t start) x → walkOf (take (s .sectors) (t .fat)) x ≡ lists ys
-        → chainBytes (stateLen s) (resized (stateLen s) before len .hand .disk .image) ys ≡ chainBytes (stateLen s) img ys
-    resize-others-bytes x ys a walk = edit-keeps s img t room start (Resize len) [] z ys (others-before (edit-rows s img t room start (Resize len) 0 z) x ys a walk)
-
-  -- an accepted write
-  module _ (offset : ℕ) (buf : List ℕ) (z : writeNo s img t room start offset (length buf) ≡ 0) where
-    -- document 01, Write: the entry of a sector that is neither FREE before nor in the chain stays
-    pub write-entries : (x : ℕ) → x < s .sectors → getD (t .fat) x 0 ≢ freeSector → Absent (chainIds s t start) x
-        → getD (written (stateLen s) before offset buf .hand .disk .fat) x 0 ≡ getD (t .fat) x 0
-    unfolding chainFrom
-    write-entries x l d a =
-        written-spares (stateLen s) R offset buf before (write-fits s img t room start offset buf z) .stays x
-        (aloof-before (edit-rows s img t room start (Write offset) (length buf) z) x l d a)
-
-    -- document 01, Write: a walk that begins outside the chain lists the same sectors then, in the same order,
-    pub write-others-walk : (x : ℕ) (ys : List ℕ) → Absent (chainIds s t start) x → walkOf (take (s .sectors) (t .fat)) x ≡ lists ys
-        → walkOf (fatHeld (written (stateLen s) before offset buf .hand .disk)) x ≡ lists ys
-    write-others-walk x ys a walk =
-        walk-then (edit-rows s img t room start (Write offset) (length buf) z) x ys a walk (written (stateLen s) before offset buf)
-        (written-fits (stateLen s) R offset buf before (write-fits s img t room start offset buf z))
-        (written-spares (stateLen s) R offset buf before (write-fits s img t room start offset buf z))
-
-    -- and they have the same bytes
-    pub write-others-bytes : (x : ℕ) (ys : List ℕ) → Absent (chainIds s t start) x → walkOf (take (s .sectors) (t .fat)) x ≡ lists ys
-        → chainBytes (stateLen s) (written (stateLen s) before offset buf .hand .disk .image) ys ≡ chainBytes (stateLen s) img ys
-    write-others-bytes x ys a walk = edit-keeps s img t room start (Write offset) buf z ys (others-before (edit-rows s img t room start (Write offset) (length buf) z) x ys a walk)
+    pub edit-others-bytes : (x : ℕ) (ys : List ℕ) → Absent (chainIds s t start) x → walkOf (take (s .sectors) (t .fat)) x ≡ lists ys
+        → chainBytes (stateLen s) (after .hand .disk .image) ys ≡ chainBytes (stateLen s) img ys
+    edit-others-bytes x ys a walk = edit-keeps s img t room start e buf z ys (others-before rows x ys a walk)
