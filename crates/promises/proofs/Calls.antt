@@ -1,7 +1,7 @@
 -- What an accepted edit, a resize or a write, does to its chain and to the rest of the image: the edit, and nothing else. Assumes nothing.
 use Prim.Native.Nat.{ℕ, _+_, _≤_, _<_}
 use mathlib.Core.Path.{_≡_, _∙_, ap}
-use mathlib.Core.List.{List, []}
+use mathlib.Core.List.{List}
 use native.Mathlib.Omega.{arith}
 use lib.ListN.{length, getD}
 use Rattle.sectors.specs.Sectors.{startOf}
@@ -10,7 +10,7 @@ use Rattle.alloc.specs.Opening.{Tables}
 use Rattle.walk.specs.Walk.{lists, walkOf}
 use Rattle.chain.specs.Bytes.{chainBytes}
 use Rattle.hand.specs.Hand.{Chain}
-use Rattle.moves.specs.Change.{edited, idsOf, FitsResize, FitsWrite, FitsEdit}
+use Rattle.moves.specs.Change.{edited, idsOf, FitsEdit}
 use Rattle.moves.specs.declared.change.Edit.{Edit}
 use Rattle.moves.specs.declared.change.Edit.the-variants.{Write, Resize}
 use Rattle.moves.proofs.Editing.{edit-write, edit-resize, edited-fits}
@@ -130,13 +130,3 @@ module _ (s : State) (img : List ℕ) (t : Tables) (room start : ℕ) where
     edit-free-stays q x l h =
         edit-leaves _ (unnamed-past (sector-past (stateLen s) (getD (after .hand .frees) q 0) x (edit-roles .fits .fits .disk .header)))
         (free-unlisted (stateLen s) _ after (edited-roles (stateLen s) _ e buf before edit-fits edit-roles) q x l h)
-
-  -- an accepted resize
-  module _ (len : ℕ) (z : resizeNo s img t room start len ≡ 0) where
-    pub resize-fits : FitsResize (stateLen s) (roomOf (stateLen s) (length img)) len before
-    resize-fits = edit-resize (stateLen s) _ len 0 before (edit-fits (Resize len) [] z)
-
-  -- an accepted write
-  module _ (offset : ℕ) (buf : List ℕ) (z : writeNo s img t room start offset (length buf) ≡ 0) where
-    pub write-fits : FitsWrite (stateLen s) (roomOf (stateLen s) (length img)) offset (length buf) before
-    write-fits = edit-write (stateLen s) _ offset (length buf) before (edit-fits (Write offset) buf z)

@@ -21,17 +21,16 @@ use Rattle.walk.specs.Walk.{lists, walkOf}
 use Rattle.chain.specs.Bytes.{chainBytes}
 use Rattle.hand.specs.Hand.{Chain}
 use Rattle.moves.specs.Change.{idsOf}
-use Rattle.moves.specs.declared.change.Edit.{Edit}
-use Rattle.moves.specs.declared.change.Edit.the-variants.{Write, Resize}
-use Rattle.moves.proofs.Changing.{chain-listed, resized-fits, written-fits}
+use Rattle.moves.proofs.Changing.{chain-listed}
+use Rattle.moves.proofs.Editing.{edited-fits}
 use Rattle.edits.specs.Untouched.{Other, Others}
 use Rattle.cfb.specs.Calls.{stateLen, walked, chainIds, outcomeIds}
 use Rattle.cfb.specs.Changes.{chainFrom, stateFrom, tablesIn, startIn}
 use Rattle.cfb.proofs.Refusing.{padded-front}
-use Rattle.promises.specs.Demand.{InHand, Asked, write, free, askedNo, chainNamed, chainAfter, handOf, after, Call, afterAll, opened, idsFrom, bytesFrom, bytesAfter, Elsewhere, Another, Promised}
+use Rattle.promises.specs.Demand.{InHand, Asked, free, askedNo, chainNamed, chainAfter, handOf, after, Call, afterAll, opened, idsFrom, bytesFrom, bytesAfter, Elsewhere, Another, Promised}
 use Rattle.promises.specs.Whole.{fatHeld}
 use Rattle.promises.proofs.After.{AgreesAfter, edit-agrees, edit-strict, edit-len}
-use Rattle.promises.proofs.Calls.{Walks, edit-rows, edit-bytes, edit-keeps, edit-walks, resize-fits, write-fits}
+use Rattle.promises.proofs.Calls.{Walks, edit-rows, edit-fits, edit-bytes, edit-keeps, edit-walks}
 use Rattle.promises.proofs.Naming.{first-named, edit-stays, edit-gone}
 use Rattle.promises.proofs.Others.{Absent, edit-others-walk, edit-others-bytes}
 use Rattle.promises.proofs.Kept.{Sure, sure-fresh, opened-sure}
@@ -58,10 +57,6 @@ pub record Done (h : InHand) (room : ℕ) (ask : Asked) (c : Chain) (xs : List �
 abbrev DoneAsked : InHand → ℕ → Asked → Type 0
 DoneAsked h room ask =
     Done h room ask (chainAfter h room ask) (bytesAfter (stateLen (h .state)) (ask .edit) (ask .buf) (bytesFrom h (ask .start)) (length (idsFrom h (ask .start))))
-
--- what is asked for, by its parts
-abbrev asked : ℕ → Edit → List ℕ → Asked
-asked start e buf = record { start = start; edit = e; buf = buf }
 
 -- bytes of a chain by equal parts, and those of one sector
 bytes-own : (S S' : ℕ) (img img' ids ids' : List ℕ) → S ≡ S' → img ≡ img' → ids ≡ ids' → chainBytes S img ids ≡ chainBytes S' img' ids'
@@ -143,48 +138,23 @@ module _ (h : InHand) (room : ℕ) (ask : Asked) (c : Chain) (xs : List ℕ) (d 
       ∙ d .keeps (i ∷ []) (record { each = one-each (Other (stateLen (h .state)) (chainNamed h room ask)) i (other-one i w) })
       ∙ bytes-one (stateLen (h .state)) (h .image) i
 
--- the two edits, accepted
-write-done : (h : InHand) (room start offset : ℕ) (buf : List ℕ) → askedNo h room (write start offset buf) ≡ 0 → DoneAsked h room (write start offset buf)
-write-done h room start offset buf z =
-    record {
-      strict = edit-strict (h .state) (h .image) (h .tables) room start (Write offset) buf z;
-      agrees = edit-agrees (h .state) (h .image) (h .tables) room start (Write offset) buf z;
-      len = edit-len (h .state) (h .image) (h .tables) room start (Write offset) buf z;
-      walks = edit-walks (h .state) (h .image) (h .tables) room start (Write offset) buf z;
-      count = chain-listed (stateLen (h .state)) _ _ (written-fits (stateLen (h .state)) _ offset buf _ (write-fits (h .state) (h .image) (h .tables) room start offset buf z));
-      first = first-named (h .state) (h .image) (h .tables) room start (edit-rows (h .state) (h .image) (h .tables) room start (Write offset) (length buf) z);
-      stays = edit-stays (h .state) (h .image) (h .tables) room start (Write offset) buf z;
-      gone = edit-gone (h .state) (h .image) (h .tables) room start (Write offset) buf z;
-      bytes = edit-bytes (h .state) (h .image) (h .tables) room start (Write offset) buf z;
-      keeps = edit-keeps (h .state) (h .image) (h .tables) room start (Write offset) buf z;
-      others = edit-others-walk (h .state) (h .image) (h .tables) room start (Write offset) buf z;
-      others-bytes = edit-others-bytes (h .state) (h .image) (h .tables) room start (Write offset) buf z;
-    }
-
-resize-done : (h : InHand) (room start len : ℕ) (buf : List ℕ) → askedNo h room (asked start (Resize len) buf) ≡ 0 → DoneAsked h room (asked start (Resize len) buf)
-resize-done h room start len buf z =
-    record {
-      strict = edit-strict (h .state) (h .image) (h .tables) room start (Resize len) buf z;
-      agrees = edit-agrees (h .state) (h .image) (h .tables) room start (Resize len) buf z;
-      len = edit-len (h .state) (h .image) (h .tables) room start (Resize len) buf z;
-      walks = edit-walks (h .state) (h .image) (h .tables) room start (Resize len) buf z;
-      count = chain-listed (stateLen (h .state)) _ _ (resized-fits (stateLen (h .state)) _ len _ (resize-fits (h .state) (h .image) (h .tables) room start len z));
-      first = first-named (h .state) (h .image) (h .tables) room start (edit-rows (h .state) (h .image) (h .tables) room start (Resize len) 0 z);
-      stays = edit-stays (h .state) (h .image) (h .tables) room start (Resize len) buf z;
-      gone = edit-gone (h .state) (h .image) (h .tables) room start (Resize len) buf z;
-      bytes = edit-bytes (h .state) (h .image) (h .tables) room start (Resize len) buf z;
-      keeps = edit-keeps (h .state) (h .image) (h .tables) room start (Resize len) buf z;
-      others = edit-others-walk (h .state) (h .image) (h .tables) room start (Resize len) buf z;
-      others-bytes = edit-others-bytes (h .state) (h .image) (h .tables) room start (Resize len) buf z;
-    }
-
-edit-done : (h : InHand) (room start : ℕ) (e : Edit) (buf : List ℕ) → askedNo h room (asked start e buf) ≡ 0 → DoneAsked h room (asked start e buf)
-edit-done h room start (Write offset) buf z = write-done h room start offset buf z
-edit-done h room start (Resize len) buf z = resize-done h room start len buf z
-
 -- an accepted call
-asked-done : (h : InHand) (room : ℕ) (ask : Asked) → askedNo h room ask ≡ 0 → DoneAsked h room ask
-asked-done h room ask z = edit-done h room (ask .start) (ask .edit) (ask .buf) z
+edit-done : (h : InHand) (room : ℕ) (ask : Asked) → askedNo h room ask ≡ 0 → DoneAsked h room ask
+edit-done h room ask z =
+    record {
+      strict = edit-strict (h .state) (h .image) (h .tables) room (ask .start) (ask .edit) (ask .buf) z;
+      agrees = edit-agrees (h .state) (h .image) (h .tables) room (ask .start) (ask .edit) (ask .buf) z;
+      len = edit-len (h .state) (h .image) (h .tables) room (ask .start) (ask .edit) (ask .buf) z;
+      walks = edit-walks (h .state) (h .image) (h .tables) room (ask .start) (ask .edit) (ask .buf) z;
+      count = chain-listed (stateLen (h .state)) _ _ (edited-fits (stateLen (h .state)) _ (ask .edit) (ask .buf) _ (edit-fits (h .state) (h .image) (h .tables) room (ask .start) (ask .edit) (ask .buf) z));
+      first = first-named (h .state) (h .image) (h .tables) room (ask .start) (edit-rows (h .state) (h .image) (h .tables) room (ask .start) (ask .edit) (length (ask .buf)) z);
+      stays = edit-stays (h .state) (h .image) (h .tables) room (ask .start) (ask .edit) (ask .buf) z;
+      gone = edit-gone (h .state) (h .image) (h .tables) room (ask .start) (ask .edit) (ask .buf) z;
+      bytes = edit-bytes (h .state) (h .image) (h .tables) room (ask .start) (ask .edit) (ask .buf) z;
+      keeps = edit-keeps (h .state) (h .image) (h .tables) room (ask .start) (ask .edit) (ask .buf) z;
+      others = edit-others-walk (h .state) (h .image) (h .tables) room (ask .start) (ask .edit) (ask .buf) z;
+      others-bytes = edit-others-bytes (h .state) (h .image) (h .tables) room (ask .start) (ask .edit) (ask .buf) z;
+    }
 
 -- document 01, Free: a resize to no byte leaves none
 no-byte : (v : Version) → padded [] (lengthOf v * ceil 0 (lengthOf v)) ≡ []
@@ -208,7 +178,7 @@ after-refused h room ask z = rw (ne-eqb _ _ z)
 after-sure : (h : InHand) (room : ℕ) (ask : Asked) → Sure h → Sure (after h room ask)
 after-sure h room ask s =
     ⊎-elim
-    (λ (z : askedNo h room ask ≡ 0). rw (after-accepted h room ask z) (done-sure h room ask _ _ (asked-done h room ask z)))
+    (λ (z : askedNo h room ask ≡ 0). rw (after-accepted h room ask z) (done-sure h room ask _ _ (edit-done h room ask z)))
     (λ (d : askedNo h room ask ≢ 0). rw (after-refused h room ask d) s)
     (same-or (askedNo h room ask) 0)
 
@@ -223,24 +193,24 @@ call-promised : (h : InHand) (room : ℕ) (ask : Asked) → Sure h → Promised 
 call-promised h room ask s =
     record {
       fresh = sure-fresh (after h room ask) (after-sure h room ask s);
-      exactly = λ z. rw (after-accepted h room ask z) (done-bytes h room ask _ _ (asked-done h room ask z));
-      start = λ z. rw (after-accepted h room ask z) (done-start h room ask _ _ (asked-done h room ask z));
-      same = λ z. rw (after-accepted h room ask z) (done-same h room ask _ _ (asked-done h room ask z));
-      gone = λ z. rw (after-accepted h room ask z) (done-gone h room ask _ _ (asked-done h room ask z));
+      exactly = λ z. rw (after-accepted h room ask z) (done-bytes h room ask _ _ (edit-done h room ask z));
+      start = λ z. rw (after-accepted h room ask z) (done-start h room ask _ _ (edit-done h room ask z));
+      same = λ z. rw (after-accepted h room ask z) (done-same h room ask _ _ (edit-done h room ask z));
+      gone = λ z. rw (after-accepted h room ask z) (done-gone h room ask _ _ (edit-done h room ask z));
       refused = after-refused h room ask;
       elsewhere = λ i w.
           ⊎-elim
-          (λ (z : askedNo h room ask ≡ 0). rw (after-accepted h room ask z) (done-elsewhere h room ask _ _ (asked-done h room ask z) i w))
+          (λ (z : askedNo h room ask ≡ 0). rw (after-accepted h room ask z) (done-elsewhere h room ask _ _ (edit-done h room ask z) i w))
           (λ (d : askedNo h room ask ≢ 0). rw (after-refused h room ask d))
           (same-or (askedNo h room ask) 0);
       others = λ x ids a.
           ⊎-elim
-          (λ (z : askedNo h room ask ≡ 0). rw (after-accepted h room ask z) (done-others h room ask _ _ (asked-done h room ask z) x ids a))
+          (λ (z : askedNo h room ask ≡ 0). rw (after-accepted h room ask z) (done-others h room ask _ _ (edit-done h room ask z) x ids a))
           (λ (d : askedNo h room ask ≢ 0). rw (after-refused h room ask d) (a .walks))
           (same-or (askedNo h room ask) 0);
       others-bytes = λ x ids a.
           ⊎-elim
-          (λ (z : askedNo h room ask ≡ 0). rw (after-accepted h room ask z) (done-others-bytes h room ask _ _ (asked-done h room ask z) x ids a))
+          (λ (z : askedNo h room ask ≡ 0). rw (after-accepted h room ask z) (done-others-bytes h room ask _ _ (edit-done h room ask z) x ids a))
           (λ (d : askedNo h room ask ≢ 0). rw (after-refused h room ask d))
           (same-or (askedNo h room ask) 0);
     }

@@ -61,7 +61,7 @@ unfolding written withImage
 written-cleared S offset buf c k = extend-cleared S (writeMore S (c .count) offset (length buf)) c k
 
 -- and so does any edit
-pub edited-cleared : (S : ℕ) (e : Edit) (buf : List ℕ) (c : Chain) → Cleared c → Cleared (edited S c e buf)
+edited-cleared : (S : ℕ) (e : Edit) (buf : List ℕ) (c : Chain) → Cleared c → Cleared (edited S c e buf)
 edited-cleared S (Write offset) buf c k = written-cleared S offset buf c k
 edited-cleared S (Resize len) buf c k = resized-cleared S len c k
 

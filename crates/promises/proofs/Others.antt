@@ -140,7 +140,7 @@ written-spares S R offset buf c f =
     spares-with c (extend S c (writeMore S (c .count) offset (length buf))) _ (extended-spares S R (writeMore S (c .count) offset (length buf)) c (f .fits))
 
 -- so any edit does
-pub edited-spares : (S R : ℕ) (e : Edit) (buf : List ℕ) (c : Chain) → FitsEdit S R e (length buf) c → Spares c (edited S c e buf)
+edited-spares : (S R : ℕ) (e : Edit) (buf : List ℕ) (c : Chain) → FitsEdit S R e (length buf) c → Spares c (edited S c e buf)
 edited-spares S R (Write offset) buf c f = written-spares S R offset buf c (edit-write S R offset (length buf) c f)
 edited-spares S R (Resize len) buf c f = resized-spares S R len c (edit-resize S R len (length buf) c f)
 
