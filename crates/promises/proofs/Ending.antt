@@ -34,6 +34,7 @@ extend-cleared : (S m : ℕ) (c : Chain) → Cleared c → Cleared (extend S c m
 extend-cleared S zero c k = rw extend-none k
 extend-cleared S (suc m) c k = rw extend-more (extend-cleared S m (extendOne S c) (one-cleared S c k))
 
+-- the front of a list is no longer than was asked for
 take-short : (m : ℕ) (xs : List ℕ) → length (take m xs) ≤ m
 take-short m xs = simp length-take (omega arith)
 
