@@ -70,11 +70,14 @@ unfoldable pub needsDifat : ℕ → ℕ → Bool
 unfolding difatCount
 needsDifat S p = both (leb 109 p) (leb (difatCount S p) ((p - 109) / (perSector S - 1)))
 
--- MS-CFB 2.5: place p of the DIFAT, 109 or later, is stored in the DIFAT sector that has it
+-- MS-CFB 2.5: where place p of the DIFAT, 109 or later, stands in the image: S / 4 - 1 places to a DIFAT sector
+abbrev pub farPlace : ℕ → List ℕ → ℕ → ℕ
+farPlace S difats p = startOf S (getD difats ((p - 109) / (perSector S - 1)) 0) + 4 * ((p - 109) % (perSector S - 1))
+
+-- place p of the DIFAT, 109 or later, is stored in the DIFAT sector that has it
 unfoldable pub storePlace : ℕ → Disk → ℕ → ℕ → Disk
 unfolding store
-storePlace S d p id =
-    store d (startOf S (getD (d .difats) ((p - 109) / (perSector S - 1)) 0) + 4 * ((p - 109) % (perSector S - 1))) (digits 4 id)
+storePlace S d p id = store d (farPlace S (d .difats) p) (digits 4 id)
 
 -- document 01: the disk whose DIFAT has place p, 109 or later: a DIFAT sector is added where none holds it
 unfoldable pub holdPlace : ℕ → Disk → ℕ → Disk

@@ -14,7 +14,7 @@ use Rattle.fat.specs.Lists.{ceil}
 use Rattle.fat.proofs.Listing.{ceil-enough}
 use Rattle.alloc.specs.Opening.{padded}
 use Rattle.chain.specs.Bytes.{chainBytes}
-use Rattle.stores.specs.Stores.{writeBytes, tailOf, zeroTail, Writable, Outside}
+use Rattle.stores.specs.Stores.{writeBytes, tailOf, zeroTail, Writable, Outside, Beside}
 use Rattle.chain.proofs.Bytes.{length-chain}
 use Rattle.stores.proofs.Stored.{write-chain, write-apart}
 use Rattle.stores.proofs.Zeroed.{tail-none, tail-some, zero-chain, zero-apart, zero-sector}
@@ -29,7 +29,7 @@ use Rattle.moves.proofs.Shrinking.{shrink-fits, shrink-ids, shrink-count, shrin
 use Rattle.moves.proofs.Changing.{chain-listed, chain-id, chain-lies, chain-writable, shrunk-writable, resized-more, resized-fewer, resize-shrink, write-covers}
 use Rattle.moves.proofs.Staying.{extend-apart}
 use Rattle.edits.specs.Roles.{Roles}
-use Rattle.edits.specs.Untouched.{Beside, UnnamedFrom, Unlisted, Other, Others}
+use Rattle.edits.specs.Untouched.{UnnamedFrom, Unlisted, Other, Others}
 use Rattle.edits.proofs.Named.{unnamed-past}
 use Rattle.edits.proofs.Joining.{sector-stays, chain-stays, sector-past, other-unlisted}
 use Rattle.edits.proofs.Extended.{extended-bytes, extended-spares, extended-other}

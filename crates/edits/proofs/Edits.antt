@@ -6,6 +6,7 @@ use mathlib.Core.Logic.{inl, inr}
 use native.Mathlib.Omega.{arith}
 use native.Mathlib.Nat.{add-mul, one-mul}
 use lib.ListN.{length, getD, take, replicate}
+use Rattle.stores.specs.Stores.{Beside}
 use Rattle.lists.specs.Lists.{splice}
 use Rattle.sectors.specs.Sectors.{startOf, sectorOf}
 use Rattle.fat.specs.Lists.{ceil}
@@ -23,7 +24,7 @@ use Rattle.moves.proofs.Changing.{resized-more, resized-fewer, resize-shrink, r
 use Rattle.moves.proofs.Editing.{edit-write, edit-resize}
 use Rattle.edits.specs.Order.{takenAt, addedFat, addedDifat}
 use Rattle.edits.specs.Roles.{Roles, fatsHeld, difatsHeld}
-use Rattle.edits.specs.Untouched.{Beside, UnnamedFrom, Unlisted, Others}
+use Rattle.edits.specs.Untouched.{UnnamedFrom, Unlisted, Others}
 use Rattle.edits.proofs.Order.{extend-ids-stay, extend-taken, extend-frees-stay, extend-frees-zero, shrink-freed}
 use Rattle.edits.proofs.Joining.{other-aside}
 use Rattle.edits.proofs.Extended.{extend-begins, extended-fats, extended-difats}

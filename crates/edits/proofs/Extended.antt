@@ -7,6 +7,7 @@ use native.Mathlib.Omega.{arith}
 use native.Mathlib.Nat.{mul-suc, mul-zero}
 use lib.ListN.{length, getD, replicate, length-replicate, getD-replicate, replicate-append-replicate}
 use lib.Seq.{ext-getD, take-suc-set}
+use Rattle.stores.specs.Stores.{Beside}
 use Rattle.lists.specs.Lists.{part}
 use Rattle.lists.proofs.Cases.{below-or, same-or}
 use Rattle.lists.proofs.Splice.{length-part, getD-part}
@@ -24,7 +25,7 @@ use Rattle.moves.proofs.Changing.{chain-listed, chain-id}
 use Rattle.moves.proofs.Staying.{ready-least, taken-other, one-ids-at, one-ids-last, one-frees-at}
 use Rattle.edits.specs.Order.{addedFat, addedDifat}
 use Rattle.edits.specs.Roles.{Roles, fatsHeld, difatsHeld}
-use Rattle.edits.specs.Untouched.{Beside, UnnamedFrom, Unlisted, Other}
+use Rattle.edits.specs.Untouched.{UnnamedFrom, Unlisted, Other}
 use Rattle.edits.proofs.Listed.{listed-stays, listed-none}
 use Rattle.edits.proofs.Growing.{one-grown}
 use Rattle.edits.proofs.Named.{unnamed-within, unnamed-past}

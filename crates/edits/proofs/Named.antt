@@ -3,8 +3,9 @@ use Prim.Native.Nat.{ℕ, _≤_, _<_}
 use mathlib.Core.Path.{_≡_}
 use mathlib.Core.Logic.{_⊎_, inl, inr}
 use native.Mathlib.Omega.{arith}
+use Rattle.stores.specs.Stores.{NotIn}
 use Rattle.fields.specs.Fields.{fatsAt, difatAt, entriesAt, offsetOf, widthOf}
-use Rattle.edits.specs.Untouched.{NotIn, Unnamed}
+use Rattle.edits.specs.Untouched.{Unnamed}
 
 -- a change within another names no more
 pub unnamed-within : {k k' j j' l l' i i' b : ℕ} → Unnamed k k' j j' b → k ≤ l → l' ≤ k' → j ≤ i → i' ≤ j' → Unnamed l l' i i' b

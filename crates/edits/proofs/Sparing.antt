@@ -9,6 +9,7 @@ use native.Mathlib.Nat.{mod-lt, div-le-self}
 use borrow.Author.Tests.{lt-ltb, le-ltb, eq-eqb, ne-eqb}
 use lib.ListN.{length, getD, set}
 use lib.Seq.{getD-set-same}
+use Rattle.stores.specs.Stores.{NotIn, Beside}
 use Rattle.lists.specs.Lists.{splice}
 use Rattle.lists.proofs.Cases.{below-or, same-or, true-or}
 use Rattle.lists.proofs.Splice.{splice-below, splice-above}
@@ -27,7 +28,7 @@ use Rattle.disk.specs.Fits.{Fits}
 use Rattle.disk.proofs.Counting.{difat-none, difat-suc, needs-full, needs-not}
 use Rattle.disk.proofs.Keeping.{Kept, kept-then, kept-none, each-many, entry-inside, header-inside, sectors-inside, link-inside, entries-inside, number-kept, init-kept, set-kept, push-kept, grow-kept, list-kept}
 use Rattle.disk.proofs.Fitting.{difatNew, difatMarked, difatLinked, difatListed, place-inside, place-in-sector}
-use Rattle.edits.specs.Untouched.{NotIn, Beside, Unnamed}
+use Rattle.edits.specs.Untouched.{Unnamed}
 
 -- a run within a sector leaves what stands beside the sector
 pub beside-run : (S i b x w : ℕ) → x + w ≤ S → Beside S i b → NotIn (startOf S i + x) w b

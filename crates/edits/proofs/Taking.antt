@@ -9,6 +9,7 @@ use native.Mathlib.Nat.{div-le-self}
 use borrow.Author.Tests.{le-ltb}
 use lib.ListN.{length, getD, set, replicate, length-replicate, getD-replicate}
 use lib.Seq.{getD-set-same}
+use Rattle.stores.specs.Stores.{Beside}
 use Rattle.lists.specs.Lists.{splice}
 use Rattle.lists.proofs.Cases.{same-or, true-or}
 use Rattle.lists.proofs.Splice.{splice-inside}
@@ -28,7 +29,7 @@ use Rattle.hand.specs.Hand.{Hand, Chain, point, takenId, takeSector, linked, ex
 use Rattle.hand.specs.Fits.{FitsHand, FitsMore}
 use Rattle.hand.proofs.Taking.{take-none, take-one, id-new, id-last}
 use Rattle.hand.proofs.Linking.{linked-none, linked-last, more-room, more-last, more-taken}
-use Rattle.edits.specs.Untouched.{Beside, UnnamedFrom, Spared, Aside}
+use Rattle.edits.specs.Untouched.{UnnamedFrom, Spared, Aside}
 use Rattle.edits.specs.Roles.{fatsHeld, difatsHeld}
 use Rattle.edits.proofs.Listed.{listed-stays}
 use Rattle.edits.proofs.Growing.{needs-far, append-fats, append-difats-more, append-grown-fat, append-grown-difat, new-fats, reused-lists, SameLists, linked-lists}

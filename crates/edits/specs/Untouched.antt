@@ -2,21 +2,13 @@
 use Prim.Native.Nat.{ℕ, _+_, _*_, _≤_, _<_}
 use mathlib.Core.Path.{_≡_}
 use mathlib.Core.List.{List}
-use mathlib.Core.Logic.{_⊎_, _≢_}
+use mathlib.Core.Logic.{_≢_}
 use lib.ListN.{length, getD}
 use Rattle.fields.specs.Fields.{fatsAt, difatAt, difatsAt, entriesAt, offsetOf, widthOf}
-use Rattle.sectors.specs.Sectors.{startOf}
 use Rattle.disk.specs.Disk.{Disk}
+use Rattle.stores.specs.Stores.{NotIn, Beside}
 use Rattle.hand.specs.Hand.{Chain}
 use Rattle.edits.specs.Roles.{fatsHeld, difatsHeld}
-
--- byte b is none of the w bytes from o on
-abbrev pub NotIn : ℕ → ℕ → ℕ → Type 0
-NotIn o w b = (b < o) ⊎ (o + w ≤ b)
-
--- byte b does not stand in sector i
-abbrev pub Beside : ℕ → ℕ → ℕ → Type 0
-Beside S i b = NotIn (startOf S i) S b
 
 -- byte b of the header is none of those that document 01 names for a change from k FAT sectors to k' and from j DIFAT sectors to j'
 pub record Unnamed (k k' j j' b : ℕ) : Type 0 where

@@ -27,6 +27,7 @@ use Rattle.header.specs.declared.Validation.the-variants.{Strict}
 use Rattle.header.proofs.Given.{strict}
 use Rattle.fat.specs.Lists.{sectorsIn, roomOf, difatsIn, fatsIn}
 use Rattle.judge.specs.Judge.{marksOf, freesOf}
+use Rattle.stores.specs.Stores.{NotIn}
 use Rattle.alloc.specs.Opening.{Tables, firstRows, tableRows, openFat, openTables, shortest, padded}
 use Rattle.alloc.proofs.First.{early-passed}
 use Rattle.alloc.proofs.Filled.{front-padded, length-openFat, length-marks, length-fats, length-difats}
@@ -67,7 +68,7 @@ rows-same m p p' x x' t t' u v w = rw (u, v, w)
 -- MS-CFB 2.2: two images of one length have the same bytes in the header's fields that no change stores: all below 68 but those of the FAT's count
 pub record Alike (img img' : List ℕ) : Type 0 where
   pub long : length img' ≡ length img
-  pub bytes : (b : ℕ) → (b < offsetOf fatsAt) ⊎ (offsetOf fatsAt + widthOf fatsAt ≤ b) → b < offsetOf difatAt → getD img' b 0 ≡ getD img b 0
+  pub bytes : (b : ℕ) → NotIn (offsetOf fatsAt) (widthOf fatsAt) b → b < offsetOf difatAt → getD img' b 0 ≡ getD img b 0
 
 -- document 01, 2 to 9: the second image's header is accepted, and those fields are read as the first one's
 pub record Headed (img img' : List ℕ) : Type 0 where

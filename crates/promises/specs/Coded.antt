@@ -1,5 +1,5 @@
 -- What the bytes of an image say of the tables in hand, place by place (MS-CFB 2.2, 2.3, 2.5), over the sector's length S. Assumes nothing.
-use Prim.Native.Nat.{ℕ, _+_, _-_, _*_, _/_, _%_, _≤_, _<_}
+use Prim.Native.Nat.{ℕ, _+_, _-_, _*_, _≤_, _<_}
 use mathlib.Core.Path.{_≡_}
 use mathlib.Core.List.{List}
 use lib.Dec.{ltb}
@@ -8,16 +8,14 @@ use Rattle.lists.specs.Lists.{choose}
 use Rattle.words.specs.Words.{le}
 use Rattle.consts.specs.Consts.{freeSector}
 use Rattle.fields.specs.Fields.{fatsAt, difatsAt, entriesAt, offsetOf}
-use Rattle.sectors.specs.Sectors.{startOf, perSector}
+use Rattle.sectors.specs.Sectors.{perSector}
 use Rattle.sound.specs.Sound.{Ends}
-use Rattle.disk.specs.Disk.{Disk, entryPlace, linkPlace}
+use Rattle.disk.specs.Disk.{Disk, entryPlace, linkPlace, farPlace}
 use Rattle.edits.specs.Roles.{fatsHeld, difatsHeld}
 
--- MS-CFB 2.5: where place p of the DIFAT stands in the image: in the header below 109, then S / 4 - 1 places to a DIFAT sector
+-- MS-CFB 2.5: where place p of the DIFAT stands in the image: in the header below 109, then in the DIFAT sectors
 unfoldable pub placeOf : ℕ → List ℕ → ℕ → ℕ
-placeOf S difats p =
-    choose (ltb p 109) (offsetOf entriesAt + 4 * p)
-    (startOf S (getD difats ((p - 109) / (perSector S - 1)) 0) + 4 * ((p - 109) % (perSector S - 1)))
+placeOf S difats p = choose (ltb p 109) (offsetOf entriesAt + 4 * p) (farPlace S difats p)
 
 -- MS-CFB 2.3: the k sectors of the FAT hold the entries of n sectors, and FREE after them
 pub record Entries (S : ℕ) (img fats : List ℕ) (k n : ℕ) (fat : List ℕ) : Type 0 where

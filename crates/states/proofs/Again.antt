@@ -15,7 +15,7 @@ use Rattle.words.proofs.Laws.{le-below}
 use Rattle.consts.specs.Consts.{endOfChain, freeSector}
 use Rattle.fields.specs.Fields.{majorAt, dirsAt, fatsAt, dirAt, minifatAt, minifatsAt, difatAt, difatsAt, offsetOf, widthOf, numberAt, listOf}
 use Rattle.header.specs.Versions.{majorOf, versionOf}
-use Rattle.header.specs.Read.{dirsOf, endIfFree, headerOf, none}
+use Rattle.header.specs.Read.{unknown, dirsOf, endIfFree, headerOf, none}
 use Rattle.header.proofs.Given.{entries-narrow}
 use Rattle.header.specs.declared.Version.{Version}
 use Rattle.header.specs.declared.Version.the-variants.{V3, V4}
@@ -42,7 +42,7 @@ state-again s = ap₂ with (mode-again (s .mode)) (header-again (s .header))
 
 -- and they are words that hold one, where the header's have 32 bits
 pub state-holds : (s : State) → fitsIn (wordsOf (s .header)) ≡ true → holds (stateWords s) ≡ true
-unfolding holds stateWords wordsOf isVersion
+unfolding holds stateWords wordsOf isVersion unknown
 state-holds s fit = both-true (mode-known (s .mode)) (both-true (version-known (s .header .version)) fit)
   where
     mode-known : (m : Validation) → leb (modeNumber m) 1 ≡ true
@@ -55,7 +55,7 @@ state-holds s fit = both-true (mode-known (s .mode)) (both-true (version-known (
 
 -- a number that is a version's is that of its version, and one that is a mode's that of its mode
 version-number : (n : ℕ) → isVersion n ≡ true → majorOf (versionOf n) ≡ n
-unfolding isVersion versionOf
+unfolding isVersion unknown versionOf
 version-number n h =
     ⊎-elim (λ (e : n ≡ 3). rw e)
     (λ (three : n ≢ 3). ⊎-elim (λ (e : n ≡ 4). rw e)

@@ -1,7 +1,7 @@
 -- Words that hold a state: how they are stored, each test, and the header's words one by one. Assumes nothing.
 use Prim.Native.Nat.{ℕ, zero, suc, _+_, _≤_, _<_}
-use mathlib.Core.Path.{_≡_, sym, _∙_, ap}
-use mathlib.Core.Bool.{Bool, true, false}
+use mathlib.Core.Path.{_≡_, refl, sym, _∙_, ap}
+use mathlib.Core.Bool.{Bool, true, false, not}
 use mathlib.Core.List.{List, [], _∷_, _++_}
 use mathlib.Core.Logic.{_≢_}
 use native.Mathlib.Omega.{arith}
@@ -12,6 +12,7 @@ use lib.Seq.{drop-cons, getD-drop}
 use Rattle.lists.specs.Lists.{both}
 use Rattle.lists.proofs.Cases.{both-left, both-right}
 use Rattle.header.specs.Versions.{versionOf}
+use Rattle.header.specs.Read.{unknown}
 use Rattle.header.specs.declared.Version.{Version}
 use Rattle.header.specs.declared.Version.the-variants.{V3, V4}
 use Rattle.header.specs.declared.Validation.{Validation}
@@ -28,12 +29,16 @@ state-stored s e w m = rw (w, e, m)
 
 -- 3 is a version's number; of the others 4 alone is
 pub version-three : (n : ℕ) → n ≡ 3 → true ≡ isVersion n
-unfolding isVersion
+unfolding isVersion unknown
 version-three n e = rw (eq-eqb n 3 e)
 
 pub version-else : (n : ℕ) → n ≢ 3 → eqb n 4 ≡ isVersion n
-unfolding isVersion
-version-else n ne = rw (ne-eqb n 3 ne)
+unfolding isVersion unknown
+version-else n ne = rw (ne-eqb n 3 ne) (twice (eqb n 4))
+  where
+    twice : (b : Bool) → b ≡ not (not b)
+    twice true = refl
+    twice false = refl
 
 -- 4 is version 4, and any other number is taken for version 3
 pub version-four : (n : ℕ) → n ≡ 4 → V4 ≡ versionOf n

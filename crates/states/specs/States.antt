@@ -1,10 +1,11 @@
 -- A state as 121 words at the library's edge, and the state that 121 words hold. Assumes nothing.
 use Prim.Native.Nat.{ℕ}
-use mathlib.Core.Bool.{Bool, true}
+use mathlib.Core.Bool.{Bool, true, not}
 use mathlib.Core.List.{List, [], _∷_}
-use lib.Dec.{eqb, leb}
+use lib.Dec.{leb}
 use lib.ListN.{getD, drop}
-use Rattle.lists.specs.Lists.{both, either}
+use Rattle.lists.specs.Lists.{both}
+use Rattle.header.specs.Read.{unknown}
 use Rattle.header.specs.declared.Validation.{Validation}
 use Rattle.header.specs.declared.Validation.the-variants.{Permissive, Strict}
 use Rattle.cfb.specs.declared.State.{State}
@@ -25,9 +26,10 @@ unfoldable pub fitsIn : List ℕ → Bool
 fitsIn [] = true
 fitsIn (x ∷ xs) = both (leb x 4294967295) (fitsIn xs)
 
--- the number of a version
+-- the number of a version: 3 or 4
 unfoldable pub isVersion : ℕ → Bool
-isVersion n = either (eqb n 3) (eqb n 4)
+unfolding unknown
+isVersion n = not (unknown n)
 
 -- words that hold a state: a mode of 0 or 1, a version of 3 or 4, and a header's words of 32 bits
 unfoldable pub holds : List ℕ → Bool

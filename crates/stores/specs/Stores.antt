@@ -35,6 +35,14 @@ pub record Writable (S len : ℕ) (ids : List ℕ) (offset count : ℕ) : Type 0
   pub apart : (i j : ℕ) → i < length ids → j < length ids → getD ids i 0 ≡ getD ids j 0 → i ≡ j
   pub fits : offset + count ≤ S * length ids
 
+-- byte b is none of the w bytes from o on
+abbrev pub NotIn : ℕ → ℕ → ℕ → Type 0
+NotIn o w b = (b < o) ⊎ (o + w ≤ b)
+
+-- byte b does not stand in sector i
+abbrev pub Beside : ℕ → ℕ → ℕ → Type 0
+Beside S i b = NotIn (startOf S i) S b
+
 -- byte b of an image stands in none of the sectors listed
 pub record Outside (S : ℕ) (ids : List ℕ) (b : ℕ) : Type 0 where
-  pub each : (i : ℕ) → i < length ids → (b < startOf S (getD ids i 0)) ⊎ (startOf S (getD ids i 0) + S ≤ b)
+  pub each : (i : ℕ) → i < length ids → Beside S (getD ids i 0) b
