@@ -60,7 +60,7 @@ pub(crate) fn counts_dirs(validation: Validation, major: u32, dirs: u32) -> bool
 }
 
 // The version of a header whose major version is 3 or 4.
-pub(crate) fn version_of(major: u32) -> Version
+pub fn version_of(major: u32) -> Version
     ensures { λ r. ⌜ r ≡ versionOf major ⌝ }
 {
     if major == 4 { Version::V4 } else { Version::V3 }

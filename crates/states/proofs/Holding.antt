@@ -14,7 +14,6 @@ use Rattle.lists.proofs.Cases.{both-left, both-right}
 use Rattle.header.specs.Versions.{versionOf}
 use Rattle.header.specs.Read.{unknown}
 use Rattle.header.specs.declared.Version.{Version}
-use Rattle.header.specs.declared.Version.the-variants.{V3, V4}
 use Rattle.header.specs.declared.Validation.{Validation}
 use Rattle.header.specs.declared.Header.{Header}
 use Rattle.cfb.specs.declared.State.{State}
@@ -39,15 +38,6 @@ version-else n ne = rw (ne-eqb n 3 ne) (twice (eqb n 4))
     twice : (b : Bool) → b ≡ not (not b)
     twice true = refl
     twice false = refl
-
--- 4 is version 4, and any other number is taken for version 3
-pub version-four : (n : ℕ) → n ≡ 4 → V4 ≡ versionOf n
-unfolding versionOf
-version-four n e = rw (eq-eqb n 4 e)
-
-pub version-other : (n : ℕ) → n ≢ 4 → V3 ≡ versionOf n
-unfolding versionOf
-version-other n ne = rw (ne-eqb n 4 ne)
 
 -- a word that fits, one that does not, and no word more
 pub fits-more : (words : List ℕ) (i : ℕ) → fitsIn (drop 4 words) ≡ fitsIn (drop (4 + i) words) → 4 + i < length words → getD words (4 + i) 0 ≤ 4294967295

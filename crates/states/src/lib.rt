@@ -3,7 +3,7 @@ pub mod told;
 
 use cfb::State;
 use header::Validation;
-use header::Version;
+use header::judge::version_of;
 use layout::header_with;
 use layout::mode_of;
 use layout::words_of;
@@ -12,7 +12,6 @@ ghost use mathlib.Core.Path.{_≡_};
 ghost use mathlib.Core.List.{_++_};
 ghost use mathlib.Core.Bool.{true};
 ghost use lib.ListN.{replicate, drop};
-ghost use Rattle.header.specs.Versions.{versionOf};
 ghost use Rattle.states.specs.States.{modeNumber, stateWords, fitsIn, isVersion, holds, heldIn};
 
 // The number of a mode: 0 is permissive, 1 strict.
@@ -119,16 +118,6 @@ fn header_words(words: [u64; 121]) -> [u32; 117]
     held
 }
 
-// The version of a number that is 3 or 4.
-fn version_in(number: u32) -> Version
-    ensures { λ r. ⌜ r ≡ versionOf number ⌝ }
-{
-    if number == 4 {
-        return Version::V4;
-    }
-    Version::V3
-}
-
 // The state that words hold; they are its words.
 pub fn state_in(words: [u64; 121]) -> State
     requires { ⌜ holds words ≡ true ⌝ }
@@ -136,7 +125,7 @@ pub fn state_in(words: [u64; 121]) -> State
     ensures { λ r. ⌜ stateWords r ≡ words ⌝ }
 {
     let held = header_words(words);
-    let version = version_in(held[0]);
+    let version = version_of(held[0]);
     let header = header_with(version, held);
     let mode = mode_of(narrow(words[0]));
     State {

@@ -12,11 +12,11 @@ use Rattle.states.proofs.state_in.Tie as tie
 header-words-requires : tie.Need-header-words-requires
 header-words-requires c κs = holds-fits _ (c .pre)
 
-array-read-version-in : tie.Need-array-read-version-in
-array-read-version-in c = search needs
+array-read-version-of : tie.Need-array-read-version-of
+array-read-version-of c = search needs
 
-version-in-requires : tie.Need-version-in-requires
-version-in-requires c κs = search needs
+version-of-requires : tie.Need-version-of-requires
+version-of-requires c κs = search needs
 
 header-with-requires : tie.Need-header-with-requires
 header-with-requires c κs = search needs
@@ -44,7 +44,7 @@ returns c =
     let start = c .before .before .before .before .before in
     let words = start .args .t1 in
     let whole : length words ≡ 121 = start .good .0 .1 .0 .1 in
-    let held = state-held words _ (c .before .before .before .before .header-words .ensures) (c .before .before .before .version-in .ensures) (c .before .before .header-with .ensures) (c .mode-of .ensures ∙ ap modeOf (c .before .narrow .ensures)) in
+    let held = state-held words _ (c .before .before .before .before .header-words .ensures) (c .before .before .before .version-of .ensures) (c .before .before .header-with .ensures) (c .mode-of .ensures ∙ ap modeOf (c .before .narrow .ensures)) in
     (held, ap stateWords held ∙ words-again words whole (start .pre))
 
 pub state-in-spec : {M : Type 1} → statement M
@@ -52,8 +52,8 @@ state-in-spec =
     tie.close
     (tie.spec
     header-words-requires
-    array-read-version-in
-    version-in-requires
+    array-read-version-of
+    version-of-requires
     header-with-requires
     array-read-narrow
     narrow-requires
