@@ -1,7 +1,7 @@
 -- The laws of comparisons: headers, and tables that hold a list and then zeros. Assumes nothing.
 use Prim.Native.Nat.{ℕ, _+_, _-_, _≤_, _<_}
 use mathlib.Core.Path.{_≡_, refl, sym, _∙_, ap}
-use mathlib.Core.Bool.{Bool, true, false, _&&_}
+use mathlib.Core.Bool.{Bool, true, _&&_}
 use mathlib.Core.List.{List, _++_}
 use mathlib.Core.Logic.{_↔_}
 use native.Mathlib.Omega.{arith}
@@ -10,7 +10,7 @@ use lib.Dec.{eqb}
 use lib.ListN.{length, getD, take, drop, replicate, length-drop, length-replicate, getD-replicate, take-append-drop}
 use lib.Seq.{ext-getD, drop-at, take-all}
 use Rattle.lists.specs.Lists.{both, sameList}
-use Rattle.lists.proofs.Cases.{both-true, both-left, both-right, same-test, every-at, every-of}
+use Rattle.lists.proofs.Cases.{both-true, both-left, both-right, same-test, every-at, every-of, and-both}
 use Rattle.lists.proofs.Splice.{sameList-true, sameList-refl}
 use Rattle.header.specs.Versions.{majorOf}
 use Rattle.header.specs.declared.Version.{Version}
@@ -21,11 +21,6 @@ use Rattle.alloc.proofs.Filled.{front-padded}
 use Rattle.points.proofs.Testing.{same-of}
 use Rattle.agree.specs.Agree.{sameFields, sameHeader, holds}
 use Rattle.agree.specs.Parts.{allZero, tailsZero}
-
--- the code's conjunction is the definitions'
-and-both : (a b : Bool) → (a && b) ≡ both a b
-and-both true b = refl
-and-both false b = refl
 
 -- versions with one number are one
 major-one : (v w : Version) → majorOf v ≡ majorOf w → v ≡ w
