@@ -1,26 +1,28 @@
--- The laws of a free list in any order: how often a number stands in it, and what the stored places tell. Assumes nothing.
-use Prim.Native.Nat.{ℕ, zero, suc, _≤_, _<_}
+-- The laws of a free list in any order: how often a number stands in it, and why as many different FREE sectors as there are must be all. Assumes nothing.
+use Prim.Native.Nat.{ℕ, zero, suc, _+_, _-_, _≤_, _<_}
 use mathlib.Core.Path.{_≡_, refl, sym, _∙_, ap}
-use mathlib.Core.Bool.{Bool, true, false, not}
+use mathlib.Core.Bool.{Bool, true, false}
 use mathlib.Core.List.{List, [], _∷_}
 use mathlib.Core.Logic.{_↔_, ⊎-elim, _≢_}
 use native.Mathlib.Omega.{arith}
-use native.Mathlib.Nat.{le-trans}
-use borrow.Author.Tests.{eq-eqb, ne-eqb, eqb-true, ltb-true, lt-ltb}
-use lib.Dec.{eqb, ltb}
+use native.Mathlib.Nat.{le-trans, add-zero}
+use borrow.Author.Tests.{eq-eqb, ne-eqb, eqb-true}
+use lib.Dec.{eqb}
 use lib.ListN.{length, getD}
-use Rattle.lists.specs.Lists.{choose, both, either, every}
-use Rattle.lists.proofs.Cases.{same-or, not-both, both-true, both-left, both-right, both-false-left, same-test, either-cases, either-right, every-at, every-of, true-or, alike, unlike}
+use Rattle.lists.specs.Lists.{choose, both}
+use Rattle.lists.proofs.Cases.{same-or, below-or, not-both, both-true, both-left, both-right, both-false-left, same-test, every-at, every-of, true-or}
+use Rattle.lists.proofs.Pigeon.{pigeon}
 use Rattle.consts.specs.Consts.{freeSector}
-use Rattle.fat.specs.Lists.{allBelow}
-use Rattle.fat.proofs.Differing.{below-at, below-of, different-at, different-of, Placed, standsAt, places-tell}
+use Rattle.fat.specs.Lists.{allBelow, different}
+use Rattle.fat.proofs.Differing.{below-at, below-of, different-at, different-of}
 use Rattle.judge.specs.Judge.{allMarked, freesOf}
 use Rattle.judge.proofs.Marking.{marked-at, marked-of}
 use Rattle.points.specs.Frees.{occurs, timesFree, anyOrder, FreesOnce}
-use Rattle.points.specs.Parts.{placeTells, coveredAt, freesSame}
+use Rattle.points.specs.Parts.{freesSame}
+use Rattle.points.proofs.Testing.{count-yes, count-no}
 
 -- a number that stands nowhere, somewhere, in one place alone
-occurs-none : (x : ℕ) (ys : List ℕ) → ((j : ℕ) → j < length ys → getD ys j 0 ≡ x → ⊥) → occurs x ys ≡ 0
+pub occurs-none : (x : ℕ) (ys : List ℕ) → ((j : ℕ) → j < length ys → getD ys j 0 ≡ x → ⊥) → occurs x ys ≡ 0
 unfolding occurs
 occurs-none x [] n = refl
 occurs-none x (y ∷ ys) n = rw (ne-eqb x y (λ e. n 0 (omega arith) (sym e))) (occurs-none x ys (λ j h. n (suc j) (omega arith)))
@@ -45,7 +47,7 @@ occurs-place x (y ∷ ys) h =
     (λ (n : x ≢ y). let p = rest (rw (ne-eqb x y n) at h) in (suc (p .0), omega (arith, p .1), p .2))
     (same-or x y)
 
-occurs-once : (x : ℕ) (ys : List ℕ) → ((i j : ℕ) → i < length ys → j < length ys → getD ys i 0 ≡ x → getD ys j 0 ≡ x → i ≡ j) → (j : ℕ) → j < length ys → getD ys j 0 ≡ x → occurs x ys ≡ 1
+pub occurs-once : (x : ℕ) (ys : List ℕ) → ((i j : ℕ) → i < length ys → j < length ys → getD ys i 0 ≡ x → getD ys j 0 ≡ x → i ≡ j) → (j : ℕ) → j < length ys → getD ys j 0 ≡ x → occurs x ys ≡ 1
 unfolding occurs
 occurs-once x [] u j h e = absurd (omega arith)
 occurs-once x (y ∷ ys) u zero h e =
@@ -66,7 +68,7 @@ occurs-twice : (x y : ℕ) (ys : List ℕ) (j : ℕ) → occurs x (y ∷ ys) ≤
 unfolding occurs
 occurs-twice x y ys j l e h f = let m : suc (occurs x ys) ≤ 1 = rw (eq-eqb x y (sym e)) at l in omega (arith, occurs-some x ys j h f)
 
-occurs-unique : (x : ℕ) (ys : List ℕ) → occurs x ys ≤ 1 → (i j : ℕ) → i < length ys → j < length ys → getD ys i 0 ≡ x → getD ys j 0 ≡ x → i ≡ j
+pub occurs-unique : (x : ℕ) (ys : List ℕ) → occurs x ys ≤ 1 → (i j : ℕ) → i < length ys → j < length ys → getD ys i 0 ≡ x → getD ys j 0 ≡ x → i ≡ j
 occurs-unique x [] l i j hi hj p q = absurd (omega arith)
 occurs-unique x (y ∷ ys) l zero zero hi hj p q = refl
 occurs-unique x (y ∷ ys) l zero (suc j) hi hj p q = absurd (occurs-twice x y ys j l p (omega arith) q)
@@ -126,17 +128,63 @@ module _ (n : ℕ) (fat frees : List ℕ) where
   pub order-exactly : anyOrder n fat frees ≡ true ↔ FreesOnce n fat frees
   order-exactly = (order-once, once-order)
 
--- the place that is stored for a sector tells whether it stands in the list
-pub place-told : (xs ps : List ℕ) (i : ℕ) → placeTells xs ps i ≡ true → (j : ℕ) × (j < length xs) × (getD xs j 0 ≡ i)
-unfolding placeTells
-place-told xs ps i t =
-    (getD ps i 0, ltb-true _ _ (both-left _ (eqb (getD xs (getD ps i 0) 0) i) t), eqb-true _ _ (both-right (ltb (getD ps i 0) (length xs)) _ t))
+-- the FREE sectors below one: no fewer further up, and one more behind a FREE one
+rank-grows : (fat : List ℕ) (a c : ℕ) → length (freesOf a fat) ≤ length (freesOf (a + c) fat)
+rank-grows fat a zero = rw add-zero (omega arith)
+rank-grows fat a (suc c) =
+    let before : length (freesOf a fat) ≤ length (freesOf (a + c) fat) = rank-grows fat a c in
+    let next : a + suc c ≡ a + c + 1 = omega arith in
+    rw next (⊎-elim
+    (λ (e : getD fat (a + c) 0 ≡ freeSector). omega (arith, before, count-yes fat (a + c) _ _ e refl refl))
+    (λ (d : getD fat (a + c) 0 ≢ freeSector). omega (arith, before, count-no fat (a + c) _ _ d refl refl))
+    (same-or (getD fat (a + c) 0) freeSector))
 
-pub place-tells : (xs ps : List ℕ) (i : ℕ) → getD ps i 0 < length xs → getD xs (getD ps i 0) 0 ≡ i → placeTells xs ps i ≡ true
-unfolding placeTells
-place-tells xs ps i h e = both-true (lt-ltb _ _ h) (eq-eqb _ _ e)
+rank-less : (fat : List ℕ) (i n : ℕ) → i < n → getD fat i 0 ≡ freeSector → length (freesOf i fat) < length (freesOf n fat)
+rank-less fat i n h e =
+    let more : i + 1 + (n - (i + 1)) ≡ n = omega arith in
+    let grown : length (freesOf (i + 1) fat) ≤ length (freesOf n fat) = rw more at (rank-grows fat (i + 1) (n - (i + 1))) in
+    omega (arith, grown, count-yes fat i _ _ e refl refl)
 
--- a free list that is tested in turn: its number, its range, its entries, its repeats, and what it leaves out
+-- as many different FREE sectors below n as there are: each FREE sector is among them, or it and they would be too many
+all-listed : (n : ℕ) (fat xs : List ℕ) → length xs ≡ length (freesOf n fat) → ((j : ℕ) → j < length xs → getD xs j 0 < n) → ((j : ℕ) → j < length xs → getD fat (getD xs j 0) 0 ≡ freeSector)
+    → ((i j : ℕ) → i < length xs → j < length xs → getD xs i 0 ≡ getD xs j 0 → i ≡ j) → (i : ℕ) → i < n → getD fat i 0 ≡ freeSector → (j : ℕ) × (j < length xs) × (getD xs j 0 ≡ i)
+all-listed n fat xs count low free once i h f =
+    ⊎-elim
+    (λ (some : 0 < occurs i xs). occurs-place i xs some)
+    (λ (none : occurs i xs ≤ 0). absurd (omega (arith, pigeon (length xs) (suc (length xs)) (λ j. rank (getD (i ∷ xs) j 0)) (λ j l. rw count (rank-less fat _ n (below j l) (isFree j l))) (apart none))))
+    (below-or 0 (occurs i xs))
+  where
+    rank : ℕ → ℕ
+    rank x = length (freesOf x fat)
+
+    below : (j : ℕ) → j < suc (length xs) → getD (i ∷ xs) j 0 < n
+    below zero l = h
+    below (suc j) l = low j (omega arith)
+
+    isFree : (j : ℕ) → j < suc (length xs) → getD fat (getD (i ∷ xs) j 0) 0 ≡ freeSector
+    isFree zero l = f
+    isFree (suc j) l = free j (omega arith)
+
+    same : (a b : ℕ) → getD fat a 0 ≡ freeSector → getD fat b 0 ≡ freeSector → rank a ≡ rank b → a ≡ b
+    same a b fa fb e =
+        ⊎-elim
+        (λ (l : a < b). absurd (omega (arith, rank-less fat a b l fa)))
+        (λ (g : b ≤ a). ⊎-elim (λ (l : b < a). absurd (omega (arith, rank-less fat b a l fb))) (λ (k : a ≤ b). omega arith) (below-or b a))
+        (below-or a b)
+
+    other : occurs i xs ≤ 0 → (j : ℕ) → j < length xs → getD xs j 0 ≡ i → ⊥
+    other none j l e = omega (arith, occurs-some i xs j l e)
+
+    differ : occurs i xs ≤ 0 → (a b : ℕ) → a < suc (length xs) → b < suc (length xs) → getD (i ∷ xs) a 0 ≡ getD (i ∷ xs) b 0 → a ≡ b
+    differ none zero zero la lb e = refl
+    differ none zero (suc b) la lb e = absurd (other none b (omega arith) (sym e))
+    differ none (suc a) zero la lb e = absurd (other none a (omega arith) e)
+    differ none (suc a) (suc b) la lb e = ap suc (once a b (omega arith) (omega arith) e)
+
+    apart : occurs i xs ≤ 0 → (a b : ℕ) → a < suc (length xs) → b < suc (length xs) → rank (getD (i ∷ xs) a 0) ≡ rank (getD (i ∷ xs) b 0) → a ≡ b
+    apart none a b la lb e = differ none a b la lb (same _ _ (isFree a la) (isFree b lb) e)
+
+-- a free list that is tested in turn: its number, its range, its entries, and its repeats
 module _ (fat frees : List ℕ) where
   pub frees-number : (length frees ≡ length (freesOf (length fat) fat) → ⊥) → false ≡ freesSame fat frees
   unfolding freesSame
@@ -156,33 +204,14 @@ module _ (fat frees : List ℕ) where
     pub frees-entries : allMarked fat frees freeSector ≡ false → false ≡ freesSame fat frees
     frees-entries b = refuted (λ f. not-both (marked-of fat frees freeSector (f .free)) b)
 
-    pub frees-repeat : (ps : List ℕ) → Placed frees ps (length frees) → every (length frees) (standsAt frees ps) ≡ false → false ≡ freesSame fat frees
-    frees-repeat ps placed b = refuted (λ f. not-both (different-of frees (f .once)) (sym (places-tell frees ps placed) ∙ b))
-
-    pub frees-cover : (ps : List ℕ) (r : Bool) → allBelow (length fat) frees ≡ true → allMarked fat frees freeSector ≡ true → Placed frees ps (length frees)
-        → every (length frees) (standsAt frees ps) ≡ true → r ≡ every (length fat) (coveredAt fat frees ps) → r ≡ freesSame fat frees
-    unfolding coveredAt
-    frees-cover ps r low marked placed stand e =
-        e ∙ sym (by-order ∙ sym (same-test (every (length fat) (coveredAt fat frees ps)) (anyOrder (length fat) fat frees)
+    pub frees-different : (r : Bool) → allBelow (length fat) frees ≡ true → allMarked fat frees freeSector ≡ true → r ≡ different frees → r ≡ freesSame fat frees
+    frees-different r low marked e =
+        e ∙ sym (by-order ∙ sym (same-test (different frees) (anyOrder (length fat) fat frees)
         (λ t. once-order (length fat) fat frees
         record {
           below = below-at (length fat) frees low;
           free = marked-at fat frees freeSector marked;
-          once = different-at frees (sym (places-tell frees ps placed) ∙ stand);
-          all = λ i h f. place-told frees ps i (free-covered i f (every-at (length fat) (coveredAt fat frees ps) t i h));
+          once = different-at frees t;
+          all = all-listed (length fat) fat frees count (below-at (length fat) frees low) (marked-at fat frees freeSector marked) (different-at frees t);
         })
-        (λ t. every-of (length fat) (coveredAt fat frees ps) (λ i h. covers i h (order-once (length fat) fat frees t)))))
-      where
-        free-covered : (i : ℕ) → getD fat i 0 ≡ freeSector → either (not (eqb (getD fat i 0) freeSector)) (placeTells frees ps i) ≡ true → placeTells frees ps i ≡ true
-        free-covered i f t = ⊎-elim (λ (b : not (eqb (getD fat i 0) freeSector) ≡ true). absurd (not-both b (alike _ _ f))) (λ (b : placeTells frees ps i ≡ true). b) (either-cases _ _ t)
-
-        covers : (i : ℕ) → i < length fat → FreesOnce (length fat) fat frees → either (not (eqb (getD fat i 0) freeSector)) (placeTells frees ps i) ≡ true
-        covers i h f =
-            ⊎-elim
-            (λ (e : getD fat i 0 ≡ freeSector).
-            let p = f .all i h e in
-            let q = placed (p .0) (p .1) in
-            either-right (not (eqb (getD fat i 0) freeSector)) _
-            (place-tells frees ps i (rw (p .2) at (q .0)) (rw (p .2) at (q .1))))
-            (λ (d : getD fat i 0 ≢ freeSector). ap (λ (b : Bool). either b (placeTells frees ps i)) (unlike _ _ d))
-            (same-or (getD fat i 0) freeSector)
+        (λ t. different-of frees (order-once (length fat) fat frees t .once))))

@@ -1,4 +1,3 @@
 pub mod Freeing
 pub mod Pointing
-pub mod Telling
 pub mod Testing

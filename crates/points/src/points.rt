@@ -1,82 +1,98 @@
-// Whether the entries of a FAT point as they must, and the marks say where (document 01, refusals 16 to 18). A place in the scratch counts only if the FAT confirms it: so it need not be cleared.
+// Whether the entries of a FAT point as they must, and the marks say where (document 01, refusals 16 to 18): by counting the entries that point at each sector.
 use fat::places::index;
-use judge::entries::none_dangles;
 ghost use mathlib.Core.Path.{_≡_};
+ghost use Prim.Native.Nat.{_+_, _≤_};
 ghost use lib.ListN.{length};
-ghost use Rattle.lists.specs.Lists.{every};
-ghost use Rattle.points.specs.Parts.{MarkLent, MarksLent, Pointing, ScratchLent, SectorLent, markTells, pointStands, pointsSame};
+ghost use Rattle.lists.specs.Lists.{Below};
+ghost use Rattle.points.specs.Parts.{Counting, CountsLent, MarksLent, pointerCounted, pointersOf, pointsSame, sectorRight, sectorsRight};
 
-// Stores at each sector that an entry points at the place of such an entry.
-pub fn put_points(fat: &[u32], scratch: &mut [u32])
-    requires { ⌜ ScratchLent (length (now fat)) (length (now scratch)) ⌝ }
-    ensures { λ _. ⌜ Pointing (now (fat .entry)) (now (scratch .exit)) (length (now (fat .entry))) ⌝ }
+// Adds one to the count of the sector that an entry points at, if it points at a sector.
+pub fn count_pointer(entry: u32, counts: &mut [u32])
+    requires { ⌜ Below 65536 (now counts) ⌝ }
+    ensures { λ _. ⌜ now (counts .exit) ≡ pointerCounted entry (now (counts .entry)) ⌝ }
 {
-    let mut j = 0;
+    let i = index(entry);
+    if i < counts.len() {
+        counts[i] = counts[i] + 1;
+    }
+}
+
+// Counts the four entries from j on. All four are read before a count is stored, so that none of these reads waits for the store of one of these counts.
+pub fn count_four(fat: &[u32], j: usize, counts: &mut [u32])
+    requires { ⌜ Counting (now fat) (now counts) j ⌝ }
+    requires { ⌜ j + 4 ≤ length (now fat) ⌝ }
+    ensures { λ _. ⌜ Counting (now (fat .entry)) (now (counts .exit)) (j + 4) ⌝ }
+{
+    let a = fat[j];
+    let b = fat[j + 1];
+    let c = fat[j + 2];
+    let d = fat[j + 3];
+    count_pointer(a, counts);
+    count_pointer(b, counts);
+    count_pointer(c, counts);
+    count_pointer(d, counts);
+}
+
+// Counts the entries from a place on, one by one.
+pub fn count_rest(fat: &[u32], from: usize, counts: &mut [u32])
+    requires { ⌜ Counting (now fat) (now counts) from ⌝ }
+    requires { ⌜ from ≤ length (now fat) ⌝ }
+    ensures { λ _. ⌜ now (counts .exit) ≡ pointersOf (now (fat .entry)) ⌝ }
+{
+    let mut j = from;
     while j < fat.len() {
-        let i = index(fat[j]);
-        if i < fat.len() {
-            scratch[i] = j as u32;
-        }
+        count_pointer(fat[j], counts);
         j += 1;
     }
 }
 
-// Whether entry j is not reserved, and the sector that it points at has j stored.
-pub fn point_stands(fat: &[u32], scratch: &[u32], j: usize) -> bool
-    requires { ⌜ SectorLent (length (now fat)) (length (now scratch)) j ⌝ }
-    ensures { λ r. ⌜ r ≡ pointStands (now (fat .entry)) (now (scratch .entry)) j ⌝ }
+// Stores in each count how many entries point at its sector. What the counts held before is written over.
+pub fn count_pointers(fat: &[u32], counts: &mut [u32])
+    requires { ⌜ CountsLent (length (now fat)) (length (now counts)) ⌝ }
+    ensures { λ _. ⌜ now (counts .exit) ≡ pointersOf (now (fat .entry)) ⌝ }
 {
-    if fat[j] == consts::INVALID_SECTOR {
-        return false;
+    words::fill32(counts, 0);
+    let fours = fat.len() / 4;
+    let mut q = 0;
+    while q < fours {
+        count_four(fat, 4 * q, counts);
+        q += 1;
     }
-    let i = index(fat[j]);
-    if fat.len() <= i {
-        return true;
-    }
-    index(scratch[i]) == j
+    count_rest(fat, 4 * fours, counts);
 }
 
-// Whether that holds of every entry.
-pub fn points_stand(fat: &[u32], scratch: &[u32]) -> bool
-    requires { ⌜ ScratchLent (length (now fat)) (length (now scratch)) ⌝ }
-    ensures { λ r. ⌜ r ≡ every (length (now (fat .entry))) (pointStands (now (fat .entry)) (now (scratch .entry))) ⌝ }
+// Whether the mark is the count and at most 1, the entry is not 0xfffffffb, and it is not FREE if an entry points at the sector (refusals 16 to 19).
+pub fn sector_right(entry: u32, count: u32, mark: u8) -> bool
+    ensures { λ r. ⌜ r ≡ sectorRight entry count mark ⌝ }
 {
-    let mut stand = true;
-    let mut j = 0;
-    while j < fat.len() {
-        stand = stand & point_stands(fat, scratch, j);
-        j += 1;
-    }
-    stand
+    let told = (count == mark as u32) & (count <= 1);
+    let sound = (entry != consts::FREE_SECTOR) | (count == 0);
+    told & ((entry != consts::INVALID_SECTOR) & sound)
 }
 
-// Whether the mark of sector i says whether the entry at its stored place points at it.
-pub fn mark_tells(fat: &[u32], scratch: &[u32], marks: &[u8], i: usize) -> bool
-    requires { ⌜ MarkLent (length (now fat)) (length (now scratch)) (length (now marks)) i ⌝ }
-    ensures { λ r. ⌜ r ≡ markTells (now (fat .entry)) (now (scratch .entry)) (now (marks .entry)) i ⌝ }
+// Whether that holds of every sector's entry, count and mark. The loop never returns early, so that the compiler can vectorize it.
+pub fn sectors_right(fat: &[u32], counts: &[u32], marks: &[u8]) -> bool
+    requires { ⌜ length (now counts) ≡ length (now fat) ⌝ }
+    requires { ⌜ length (now marks) ≡ length (now fat) ⌝ }
+    ensures { λ r. ⌜ r ≡ sectorsRight (now (fat .entry)) (now (counts .entry)) (now (marks .entry)) ⌝ }
 {
-    let p = index(scratch[i]);
-    if fat.len() <= p {
-        return marks[i] == 0;
-    }
-    if index(fat[p]) != i {
-        return marks[i] == 0;
-    }
-    marks[i] == 1
-}
-
-// Whether that holds of every sector.
-pub fn marks_tell(fat: &[u32], scratch: &[u32], marks: &[u8]) -> bool
-    requires { ⌜ MarksLent (length (now fat)) (length (now scratch)) (length (now marks)) ⌝ }
-    ensures { λ r. ⌜ r ≡ every (length (now (fat .entry))) (markTells (now (fat .entry)) (now (scratch .entry)) (now (marks .entry))) ⌝ }
-{
-    let mut tell = true;
+    let mut right = true;
     let mut i = 0;
     while i < fat.len() {
-        tell = tell & mark_tells(fat, scratch, marks, i);
+        right = right & sector_right(fat[i], counts[i], marks[i]);
         i += 1;
     }
-    tell
+    right
+}
+
+// Whether the entries point as they must, and the marks say where. Leaves in each count how many entries point at its sector.
+pub fn points_right(fat: &[u32], marks: &[u8], counts: &mut [u32]) -> bool
+    requires { ⌜ CountsLent (length (now fat)) (length (now counts)) ⌝ }
+    requires { ⌜ length (now marks) ≡ length (now fat) ⌝ }
+    ensures { λ r. ⌜ (r ≡ pointsSame (now (fat .entry)) (now (marks .entry))) × (now (counts .exit) ≡ pointersOf (now (fat .entry))) ⌝ }
+{
+    count_pointers(fat, counts);
+    sectors_right(fat, counts, marks)
 }
 
 // Whether the entries point as they must, and the marks say where. The scratch may hold anything before; what it holds after is not said.
@@ -84,12 +100,6 @@ pub fn same_points(fat: &[u32], marks: &[u8], scratch: &mut [u32]) -> bool
     requires { ⌜ MarksLent (length (now fat)) (length (now scratch)) (length (now marks)) ⌝ }
     ensures { λ r. ⌜ r ≡ pointsSame (now (fat .entry)) (now (marks .entry)) ⌝ }
 {
-    put_points(fat, scratch);
-    if !points_stand(fat, scratch) {
-        return false;
-    }
-    if !marks_tell(fat, scratch, marks) {
-        return false;
-    }
-    none_dangles(fat, marks)
+    let n = fat.len();
+    points_right(fat, marks, &mut scratch[..n])
 }

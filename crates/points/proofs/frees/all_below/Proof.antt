@@ -1,6 +1,6 @@
--- The invariant: the flag says whether the numbers below i are below n.
-use Prim.Native.Nat.{ℕ, _≤_, _-_}
-use mathlib.Core.Path.{_≡_, refl, ap}
+-- The invariant: the flag says whether the numbers below i are below the limit.
+use Prim.Native.Nat.{_≤_, _-_}
+use mathlib.Core.Path.{_≡_, refl}
 use native.Mathlib.Omega.{arith}
 use lib.Dec.{ltb}
 use lib.ListN.{length, getD}
@@ -12,23 +12,20 @@ use Rattle.points.proofs.frees.all_below.Statement.{statement}
 use Rattle.points.proofs.frees.all_below.Tie as tie
 
 abbrev Inv-loop : tie.InvT-loop
-Inv-loop xs n below₀ i₀ below i = (i ≤ length xs) × (below ≡ every i (λ k. ltb (getD xs k 0) n))
+Inv-loop xs limit below₀ i₀ below i = (i ≤ length xs) × (below ≡ every i (λ k. ltb (getD xs k 0) limit))
 
 abbrev μ-loop : tie.MeasureT-loop
-μ-loop xs n below₀ i₀ below i = length xs - i
+μ-loop xs limit below₀ i₀ below i = length xs - i
 
 loop-holds : tie.Need-loop-holds Inv-loop μ-loop
 unfolding every
 loop-holds c = (omega arith, refl)
 
-mul-index : tie.Need-mul-index Inv-loop μ-loop
-mul-index c = search needs
+mul-below : tie.Need-mul-below Inv-loop μ-loop
+mul-below c = search needs
 
-shared-slice-read-index : tie.Need-shared-slice-read-index Inv-loop μ-loop
-shared-slice-read-index c = omega arith
-
-index-requires : tie.Need-index-requires Inv-loop μ-loop
-index-requires c κs = search needs
+shared-slice-read-below : tie.Need-shared-slice-read-below Inv-loop μ-loop
+shared-slice-read-below c = omega arith
 
 add-i : tie.Need-add-i Inv-loop μ-loop
 add-i c = omega arith
@@ -37,13 +34,13 @@ loop-less : tie.Need-loop-less Inv-loop μ-loop
 loop-less c = omega arith
 
 loop-again : tie.Need-loop-again Inv-loop μ-loop
-loop-again c = (omega arith, flag-more _ _ _ _ (c .before .before .before .loop .inv .1) (ap (λ (x : ℕ). ltb x (c .before .before .before .before .before .args .n)) (c .index .ensures)))
+loop-again c = (omega arith, flag-more _ _ _ _ (c .before .before .loop .inv .1) refl)
 
 returns : tie.Need-returns Inv-loop μ-loop
 unfolding allBelow
 returns c =
     let l = c .before .loop in
-    let all : l .i ≡ length (c .before .before .before .args .xs .now) = omega arith in
+    let all : l .i ≡ length (c .before .before .args .xs .now) = omega arith in
     rw all at (l .inv .1)
 
 pub all-below-spec : {M : Type 1} → statement M
@@ -53,9 +50,8 @@ all-below-spec =
     Inv-loop
     μ-loop
     loop-holds
-    mul-index
-    shared-slice-read-index
-    index-requires
+    mul-below
+    shared-slice-read-below
     add-i
     loop-less
     loop-again

@@ -1,6 +1,6 @@
 -- The invariant: the count is that of the FREE entries below i.
 use Prim.Native.Nat.{_≤_, _-_}
-use mathlib.Core.Path.{_≡_, refl}
+use mathlib.Core.Path.{_≡_, refl, _∙_}
 use mathlib.Core.Logic.{⊎-elim}
 use native.Mathlib.Omega.{arith}
 use lib.ListN.{length}
@@ -43,11 +43,14 @@ loop-again c =
       ⊎-elim (λ w. count-yes _ _ _ _ (w .0 .taken) (l .inv .2) (w .1)) (λ w. count-no _ _ _ _ (w .0 .left) (l .inv .2) (w .1)) (c .if1 .came),
     )
 
+index-requires : tie.Need-index-requires Inv-loop μ-loop
+index-requires c κs = search needs
+
 returns : tie.Need-returns Inv-loop μ-loop
 returns c =
-    let l = c .before .loop in
-    let all : l .i ≡ length (c .before .before .args .fat .now) = omega arith in
-    rw all at (l .inv .2)
+    let l = c .before .before .loop in
+    let all : l .i ≡ length (c .before .before .before .before .args .fat .now) = omega arith in
+    c .index .ensures ∙ rw all at (l .inv .2)
 
 pub count-free-spec : {M : Type 1} → statement M
 count-free-spec =
@@ -62,4 +65,5 @@ count-free-spec =
     add-i
     loop-less
     loop-again
+    index-requires
     returns)
