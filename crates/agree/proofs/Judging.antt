@@ -11,7 +11,7 @@ use lib.ListN.{length, getD}
 use lib.Seq.{ext-getD}
 use Rattle.lists.specs.Lists.{choose, both, sameList}
 use Rattle.lists.specs.Rows.{row, refusal}
-use Rattle.lists.proofs.Cases.{same-or, below-or, true-or, not-both, both-true, both-left, both-right, both-false-left, both-false-right}
+use Rattle.lists.proofs.Cases.{same-or, below-or, true-or, not-both, both-true, both-left, both-right, same-test}
 use Rattle.lists.proofs.Rows.{stop}
 use Rattle.lists.proofs.Tab.{length-tab, getD-tab}
 use Rattle.lists.proofs.Splice.{sameList-true}
@@ -19,12 +19,12 @@ use Rattle.consts.specs.Consts.{maxRegular, invalidSector, endOfChain, difatSec
 use Rattle.judge.specs.Judge.{allMarked, markedFat, regular, forgiven, pointed, wrongAt, firstWrong, forgivenFat, noneDangles, fatRows}
 use Rattle.judge.proofs.Judging.{pointed-by, pointer-of, forgiven-low, forgiven-kind, forgiven-high}
 use Rattle.judge.proofs.Rows.{fat-rest}
-use Rattle.fat.specs.Loaded.{Covers}
-use Rattle.judge.proofs.Marking.{length-markedFat}
+use Rattle.judge.proofs.Marking.{length-markedFat, markedFat-marked}
 use Rattle.points.specs.Parts.{pointsOnce}
 use Rattle.points.proofs.Pointing.{Once, points-exactly}
 use Rattle.points.proofs.Testing.{same-of}
-use Rattle.agree.specs.Parts.{FatLent, listedMarked, fatSame}
+use Rattle.compare.specs.Compare.{strictSame, permissiveSame}
+use Rattle.agree.specs.Parts.{listedMarked, fatSame}
 
 -- an entry of which nothing is wrong, seen from each side
 module _ (strict : Bool) (n : ℕ) (fat : List ℕ) (i : ℕ) (small : n ≤ maxRegular) where
@@ -209,46 +209,60 @@ module _ (strict : Bool) (raw difats fats : List ℕ) where
   unfolding refusal
   right-rows m w d = rows-left m ∙ rw (eq-eqb (firstWrong strict (length raw) marked 0 (length raw)) 0 w) (ap (λ (t : Bool). choose (not t) 18 0) d)
 
--- a FAT that is tested in turn against that of the bytes, which is loaded into a room and marked there
-module _ (strict : Bool) (raw difats fats fat one : List ℕ) (e : one ≡ raw) where
-  abbrev unlisted : Bool
-  unlisted = both strict (not (both (allMarked one difats difatSector) (allMarked one fats fatSector)))
-
-  by-room : fatSame strict raw difats fats fat
-      ≡ both (not unlisted) (both (not (both strict (not (sameList fat (markedFat one difats fats))))) (sameList fat (forgivenFat (length fat) (markedFat one difats fats))))
+-- the FAT of the bytes as each mode compares it: permissive marks and forgives it; strict finds its marks there, and nothing to forgive
+module _ (raw difats fats fat : List ℕ) where
+  strict-tests : fatSame true raw difats fats fat ≡ both (both (allMarked raw difats difatSector) (allMarked raw fats fatSector)) (both (sameList fat (markedFat raw difats fats)) (sameList fat (forgivenFat (length fat) (markedFat raw difats fats))))
   unfolding fatSame listedMarked
-  by-room = rw e
+  strict-tests = twice (both (allMarked raw difats difatSector) (allMarked raw fats fatSector)) (sameList fat (markedFat raw difats fats)) (sameList fat (forgivenFat (length fat) (markedFat raw difats fats)))
+    where
+      twice : (a b c : Bool) → both (not (not a)) (both (not (not b)) c) ≡ both a (both b c)
+      twice true true c = refl
+      twice true false c = refl
+      twice false b c = refl
 
-  pub fat-unmarked : (q : Bool) → q ≡ unlisted → q ≡ true → false ≡ fatSame strict raw difats fats fat
-  fat-unmarked q h t = sym (by-room ∙ both-false-left (not unlisted) _ (ap not (sym h ∙ t)))
+  same-strict : fatSame true raw difats fats fat ≡ true → strictSame raw difats fats fat ≡ true
+  unfolding strictSame
+  same-strict t =
+      both-true (both-true (same-of fat raw own) (rw (← own ∙ sym marks) at (both-right (sameList fat (markedFat raw difats fats)) _ rest)))
+      (ap (λ (l : List ℕ). both (allMarked l difats difatSector) (allMarked l fats fatSector)) own ∙ listed)
+    where
+      tests : both (both (allMarked raw difats difatSector) (allMarked raw fats fatSector)) (both (sameList fat (markedFat raw difats fats)) (sameList fat (forgivenFat (length fat) (markedFat raw difats fats)))) ≡ true
+      tests = sym strict-tests ∙ t
 
-  module _ (two : List ℕ) (f : two ≡ markedFat one difats fats) where
-    by-two : fatSame strict raw difats fats fat ≡ both (not unlisted) (both (not (both strict (not (sameList fat two)))) (sameList fat (forgivenFat (length fat) two)))
-    by-two = by-room ∙ ap (λ (m : List ℕ). both (not unlisted) (both (not (both strict (not (sameList fat m)))) (sameList fat (forgivenFat (length fat) m)))) (sym f)
+      listed : both (allMarked raw difats difatSector) (allMarked raw fats fatSector) ≡ true
+      listed = both-left _ (both (sameList fat (markedFat raw difats fats)) (sameList fat (forgivenFat (length fat) (markedFat raw difats fats)))) tests
 
-    pub fat-differs : (q : Bool) → q ≡ not (both strict (not (sameList fat two))) → q ≡ false → false ≡ fatSame strict raw difats fats fat
-    fat-differs q h t = sym (by-two ∙ both-false-right (not unlisted) _ (both-false-left (not (both strict (not (sameList fat two)))) (sameList fat (forgivenFat (length fat) two)) (sym h ∙ t)))
+      rest : both (sameList fat (markedFat raw difats fats)) (sameList fat (forgivenFat (length fat) (markedFat raw difats fats))) ≡ true
+      rest = both-right (both (allMarked raw difats difatSector) (allMarked raw fats fatSector)) _ tests
 
-    pub fat-told : (q p r : Bool) → q ≡ unlisted → q ≡ false → p ≡ not (both strict (not (sameList fat two))) → p ≡ true → r ≡ sameList fat (forgivenFat (length fat) two) → r ≡ fatSame strict raw difats fats fat
-    fat-told q p r h t k s g = g ∙ sym (by-two ∙ rest (not unlisted) (not (both strict (not (sameList fat two)))) (sameList fat (forgivenFat (length fat) two)) (ap not (sym h ∙ t)) (sym k ∙ s))
-      where
-        rest : (a b c : Bool) → a ≡ true → b ≡ true → both a (both b c) ≡ c
-        rest a b c x y = rw (x, y)
+      marks : markedFat raw difats fats ≡ raw
+      marks = markedFat-marked raw difats fats listed
 
--- whether a FAT stays as it is matters to strict alone
-pub stays-lax : (strict : Bool) (fat raw : List ℕ) → strict ≡ false → true ≡ not (both strict (not (sameList fat raw)))
-stays-lax strict fat raw e = sym (rw e)
+      own : fat ≡ raw
+      own = sameList-true fat (markedFat raw difats fats) (both-left _ (sameList fat (forgivenFat (length fat) (markedFat raw difats fats))) rest) ∙ marks
 
-pub stays-strict : (strict r : Bool) (fat raw : List ℕ) → strict ≡ true → r ≡ sameList fat raw → r ≡ not (both strict (not (sameList fat raw)))
-stays-strict strict r fat raw e h = h ∙ sym (rw e (twice (sameList fat raw)))
-  where
-    twice : (b : Bool) → not (not b) ≡ b
-    twice true = refl
-    twice false = refl
+-- and the other way, where the FAT is the bytes' own
+strict-own : (fat difats fats : List ℕ) → sameList fat (forgivenFat (length fat) fat) ≡ true → both (allMarked fat difats difatSector) (allMarked fat fats fatSector) ≡ true → fatSame true fat difats fats fat ≡ true
+strict-own fat difats fats f l =
+    let marks : markedFat fat difats fats ≡ fat = markedFat-marked fat difats fats l in
+    strict-tests fat difats fats fat ∙ both-true l (both-true (same-of fat _ (sym marks)) (ap (λ (m : List ℕ). sameList fat (forgivenFat (length fat) m)) marks ∙ f))
 
--- the entries lie in the sectors, as many as the room holds
-pub covers-room : (S len : ℕ) (difats fats : List ℕ) (n room : ℕ) → FatLent S len difats fats n room → Covers S n len fats room
-covers-room S len difats fats n room p = rw (p .same) (p .covers)
+strict-same : (raw difats fats fat : List ℕ) → strictSame raw difats fats fat ≡ true → fatSame true raw difats fats fat ≡ true
+unfolding strictSame
+strict-same raw difats fats fat t =
+    let listed : both (allMarked fat difats difatSector) (allMarked fat fats fatSector) ≡ true = both-right (both (sameList fat raw) (sameList fat (forgivenFat (length fat) fat))) _ t in
+    let kept : both (sameList fat raw) (sameList fat (forgivenFat (length fat) fat)) ≡ true = both-left _ (both (allMarked fat difats difatSector) (allMarked fat fats fatSector)) t in
+    let own : fat ≡ raw = sameList-true fat raw (both-left _ (sameList fat (forgivenFat (length fat) fat)) kept) in
+    ap (λ (m : List ℕ). fatSame true m difats fats fat) (sym own) ∙ strict-own fat difats fats (both-right (sameList fat raw) _ kept) listed
+
+pub fat-strict : (strict r : Bool) (raw difats fats fat : List ℕ) → strict ≡ true → r ≡ strictSame raw difats fats fat → r ≡ fatSame strict raw difats fats fat
+fat-strict strict r raw difats fats fat e h =
+    h ∙ same-test (strictSame raw difats fats fat) (fatSame true raw difats fats fat) (strict-same raw difats fats fat) (same-strict raw difats fats fat)
+    ∙ ap (λ (b : Bool). fatSame b raw difats fats fat) (sym e)
+
+pub fat-permissive : (strict r : Bool) (raw difats fats fat : List ℕ) → strict ≡ false → r ≡ permissiveSame raw difats fats fat → r ≡ fatSame strict raw difats fats fat
+unfolding fatSame
+fat-permissive strict r raw difats fats fat e h = h ∙ sym (rw e)
 
 -- the rows 14 to 18, passed
 pub record Passed (strict : Bool) (n : ℕ) (raw difats fats : List ℕ) : Type 0 where

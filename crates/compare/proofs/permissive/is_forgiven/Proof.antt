@@ -1,21 +1,29 @@
--- The invariant: the flag says whether the entries below i are forgiven ones.
+-- The invariant: the flag says whether the entries below i are the others', forgiven.
 use Prim.Native.Nat.{_≤_, _-_}
 use mathlib.Core.Path.{_≡_, refl, _∙_, ap}
 use native.Mathlib.Omega.{arith}
 use lib.Dec.{eqb}
 use lib.ListN.{length, getD}
 use Rattle.lists.specs.Lists.{every}
-use Rattle.judge.specs.Judge.{forgiven, forgivenFat}
-use Rattle.points.proofs.Testing.{flag-more, same-tab}
+use Rattle.judge.specs.Judge.{forgiven}
+use Rattle.points.proofs.Testing.{flag-more}
+use Rattle.compare.proofs.Keeping.{forgiven-tells}
 use borrow.Author.Needs.{needs}
-use Rattle.agree.proofs.tables.is_forgiven.Statement.{statement}
-use Rattle.agree.proofs.tables.is_forgiven.Tie as tie
+use Rattle.compare.proofs.permissive.is_forgiven.Statement.{statement}
+use Rattle.compare.proofs.permissive.is_forgiven.Tie as tie
 
 abbrev Inv-loop : tie.InvT-loop
-Inv-loop raw fat same₀ i₀ same i = (i ≤ length fat) × (same ≡ every i (λ k. eqb (getD fat k 0) (forgiven (length fat) (getD raw k 0))))
+Inv-loop raw fat limit same₀ i₀ same i = (i ≤ length fat) × (same ≡ every i (λ k. eqb (getD fat k 0) (forgiven limit (getD raw k 0))))
 
 abbrev μ-loop : tie.MeasureT-loop
-μ-loop raw fat same₀ i₀ same i = length fat - i
+μ-loop raw fat limit same₀ i₀ same i = length fat - i
+
+-- the function's entry, before the loop
+abbrev entry : tie.At-loop Inv-loop μ-loop → tie.Start Inv-loop μ-loop
+entry c = c .before .before .before .before
+
+limit-of-requires : tie.Need-limit-of-requires Inv-loop μ-loop
+limit-of-requires c κs = search needs
 
 loop-holds : tie.Need-loop-holds Inv-loop μ-loop
 unfolding every
@@ -31,7 +39,7 @@ mul-forgiven : tie.Need-mul-forgiven Inv-loop μ-loop
 mul-forgiven c = search needs
 
 shared-slice-read-forgiven : tie.Need-shared-slice-read-forgiven Inv-loop μ-loop
-shared-slice-read-forgiven c = omega (arith, c .before .before .before .before .before .before .pre)
+shared-slice-read-forgiven c = omega (arith, entry (c .before .before .before) .pre)
 
 forgiven-requires : tie.Need-forgiven-requires Inv-loop μ-loop
 forgiven-requires c κs = search needs
@@ -46,11 +54,10 @@ loop-again : tie.Need-loop-again Inv-loop μ-loop
 loop-again c = (omega arith, flag-more _ _ _ _ (c .before .before .before .before .loop .inv .1) (ap (eqb _) (c .forgiven .ensures)))
 
 returns : tie.Need-returns Inv-loop μ-loop
-unfolding forgivenFat
 returns c =
     let l = c .before .loop in
-    let all : l .i ≡ length (c .before .before .before .before .args .fat .now) = omega arith in
-    rw all at (l .inv .1) ∙ same-tab _ _ _ refl
+    let all : l .i ≡ length (entry (c .before) .args .fat .now) = omega arith in
+    rw all at (l .inv .1) ∙ forgiven-tells _ _ _ (c .before .before .limit-of .ensures)
 
 pub is-forgiven-spec : {M : Type 1} → statement M
 is-forgiven-spec =
@@ -58,6 +65,7 @@ is-forgiven-spec =
     (tie.spec
     Inv-loop
     μ-loop
+    limit-of-requires
     loop-holds
     mul-same
     shared-slice-read-same
