@@ -10,178 +10,178 @@ use lib.Dec.{eqb}
 use lib.ListN.{length}
 use Rattle.lists.specs.Lists.{both, same_list}
 use Rattle.lists.specs.Rows.{row, refusal}
-use Rattle.lists.proofs.Cases.{true-or, not-both, both_true, both_left, both_right, same_test}
+use Rattle.lists.proofs.Cases.{true_or, not_both, both_true, both_left, both_right, same_test}
 use Rattle.lists.proofs.Rows.{stop, pass}
-use Rattle.lists.proofs.Splice.{sameList-true}
-use Rattle.lists.proofs.Tab.{length-tab}
-use Rattle.consts.specs.Consts.{maxRegular}
+use Rattle.lists.proofs.Splice.{sameList_true}
+use Rattle.lists.proofs.Tab.{length_tab}
+use Rattle.consts.specs.Consts.{max_regular}
 use Rattle.header.specs.declared.Header.{Header}
-use Rattle.fat.specs.Lists.{difatsIn, fatsIn, fatOf, listsRight, tailFree}
+use Rattle.fat.specs.Lists.{difats_in, fats_in, fat_of, lists_right, tail_free}
 use Rattle.fat.specs.Loaded.{ListsLoaded, Covers}
-use Rattle.judge.specs.Judge.{markedFat, forgivenFat, marksOf, noneDangles, fatRows}
-use Rattle.alloc.specs.Opening.{rawFat, judgedFat, openFat, tableRows}
-use Rattle.alloc.proofs.Opening.{lists-difats, lists-cover}
-use Rattle.points.specs.Parts.{pointsOnce, pointsSame}
+use Rattle.judge.specs.Judge.{marked_fat, forgiven_fat, marks_of, none_dangles, fat_rows}
+use Rattle.alloc.specs.Opening.{raw_fat, judged_fat, open_fat, table_rows}
+use Rattle.alloc.proofs.Opening.{lists_difats, lists_cover}
+use Rattle.points.specs.Parts.{points_once, points_same}
 use Rattle.points.proofs.Testing.{same_of}
-use Rattle.agree.specs.Parts.{FatLent, TablesLent, listsSame, fatSame, tablesSame}
+use Rattle.agree.specs.Parts.{FatLent, TablesLent, lists_same, fat_same, tables_same}
 use Rattle.agree.proofs.Listing.{refutes}
-use Rattle.agree.proofs.Judging.{Passed, rows-passed, passed-rows, same-fat, fat-forgiven, points-passed, passed-points}
+use Rattle.agree.proofs.Judging.{Passed, rows_passed, passed_rows, same_fat, fat_forgiven, points_passed, passed_points}
 
 -- the fronts of the tables are those of an image that opens
 pub record Fronts (strict : Bool) (S : ℕ) (img : List ℕ) (h : Header) (n : ℕ) (fat fats difats marks : List ℕ) : Type 0 where
-  pub rows : refusal (tableRows strict S img h n) ≡ 0
-  pub fat-is : fat ≡ openFat S img h n
-  pub fats-are : fats ≡ fatsIn S img h n
-  pub difats-are : difats ≡ difatsIn S img h n
-  pub marks-are : marks ≡ marksOf n (openFat S img h n)
+  pub rows : refusal (table_rows strict S img h n) ≡ 0
+  pub fat_is : fat ≡ open_fat S img h n
+  pub fats_are : fats ≡ fats_in S img h n
+  pub difats_are : difats ≡ difats_in S img h n
+  pub marks_are : marks ≡ marks_of n (open_fat S img h n)
 
 -- the rows 12 to 18, one by one
 module _ (strict : Bool) (S : ℕ) (img : List ℕ) (h : Header) (n : ℕ) where
-  rows-lists : refusal (tableRows strict S img h n) ≡ 0 → listsRight S img h n ≡ true
-  unfolding tableRows
-  rows-lists z =
+  rows_lists : refusal (table_rows strict S img h n) ≡ 0 → lists_right S img h n ≡ true
+  unfolding table_rows
+  rows_lists z =
       ⊎_elim
-      (λ (t : listsRight S img h n ≡ true). t)
-      (λ (f : listsRight S img h n ≡ false). absurd (let q : ◌≡◌ {A = ℕ} 12 0 = sym (stop 12 _ _ (ap not f)) ∙ z in omega arith))
-      (true-or _)
+      (λ (t : lists_right S img h n ≡ true). t)
+      (λ (f : lists_right S img h n ≡ false). absurd (let q : ◌≡◌ {A = ℕ} 12 0 = sym (stop 12 _ _ (ap not f)) ∙ z in omega arith))
+      (true_or _)
 
-  rows-past : listsRight S img h n ≡ true
-      → refusal (tableRows strict S img h n) ≡ refusal (row 13 (not (tailFree S img (fatsIn S img h n) n)) ∷ fatRows strict n (rawFat S img h n) (difatsIn S img h n) (fatsIn S img h n))
-  unfolding tableRows
-  rows-past t = pass 12 _ _ (ap not t)
+  rows_past : lists_right S img h n ≡ true
+      → refusal (table_rows strict S img h n) ≡ refusal (row 13 (not (tail_free S img (fats_in S img h n) n)) ∷ fat_rows strict n (raw_fat S img h n) (difats_in S img h n) (fats_in S img h n))
+  unfolding table_rows
+  rows_past t = pass 12 _ _ (ap not t)
 
-  rows-tail : refusal (tableRows strict S img h n) ≡ 0 → tailFree S img (fatsIn S img h n) n ≡ true
-  rows-tail z =
+  rows_tail : refusal (table_rows strict S img h n) ≡ 0 → tail_free S img (fats_in S img h n) n ≡ true
+  rows_tail z =
       ⊎_elim
-      (λ (t : tailFree S img (fatsIn S img h n) n ≡ true). t)
-      (λ (f : tailFree S img (fatsIn S img h n) n ≡ false). absurd (let q : ◌≡◌ {A = ℕ} 13 0 = sym (rows-past (rows-lists z) ∙ stop 13 _ _ (ap not f)) ∙ z in omega arith))
-      (true-or _)
+      (λ (t : tail_free S img (fats_in S img h n) n ≡ true). t)
+      (λ (f : tail_free S img (fats_in S img h n) n ≡ false). absurd (let q : ◌≡◌ {A = ℕ} 13 0 = sym (rows_past (rows_lists z) ∙ stop 13 _ _ (ap not f)) ∙ z in omega arith))
+      (true_or _)
 
-  rows-fat : refusal (tableRows strict S img h n) ≡ 0 → refusal (fatRows strict n (rawFat S img h n) (difatsIn S img h n) (fatsIn S img h n)) ≡ 0
-  rows-fat z = sym (rows-past (rows-lists z) ∙ pass 13 _ _ (ap not (rows-tail z))) ∙ z
+  rows_fat : refusal (table_rows strict S img h n) ≡ 0 → refusal (fat_rows strict n (raw_fat S img h n) (difats_in S img h n) (fats_in S img h n)) ≡ 0
+  rows_fat z = sym (rows_past (rows_lists z) ∙ pass 13 _ _ (ap not (rows_tail z))) ∙ z
 
-  rows_all : listsRight S img h n ≡ true → tailFree S img (fatsIn S img h n) n ≡ true → refusal (fatRows strict n (rawFat S img h n) (difatsIn S img h n) (fatsIn S img h n)) ≡ 0
-      → refusal (tableRows strict S img h n) ≡ 0
-  rows_all l t z = rows-past l ∙ pass 13 _ _ (ap not t) ∙ z
+  rows_all : lists_right S img h n ≡ true → tail_free S img (fats_in S img h n) n ≡ true → refusal (fat_rows strict n (raw_fat S img h n) (difats_in S img h n) (fats_in S img h n)) ≡ 0
+      → refusal (table_rows strict S img h n) ≡ 0
+  rows_all l t z = rows_past l ∙ pass 13 _ _ (ap not t) ∙ z
 
 -- the test of the fronts says so
 module _ (strict : Bool) (S : ℕ) (img : List ℕ) (h : Header) (n : ℕ) (fat fats difats marks : List ℕ) where
-  fronts-true : tablesSame strict S img h n fat fats difats marks ≡ true → Fronts strict S img h n fat fats difats marks
-  unfolding tablesSame
-  fronts-true t =
-      let t1 = both_right (eqb (refusal (tableRows strict S img h n)) 0) _ t in
-      let t2 = both_right (same_list fat (openFat S img h n)) _ t1 in
-      let t3 = both_right (same_list fats (fatsIn S img h n)) _ t2 in
+  fronts_true : tables_same strict S img h n fat fats difats marks ≡ true → Fronts strict S img h n fat fats difats marks
+  unfolding tables_same
+  fronts_true t =
+      let t1 = both_right (eqb (refusal (table_rows strict S img h n)) 0) _ t in
+      let t2 = both_right (same_list fat (open_fat S img h n)) _ t1 in
+      let t3 = both_right (same_list fats (fats_in S img h n)) _ t2 in
       record {
-        rows = eqb-true _ _ (both_left (eqb (refusal (tableRows strict S img h n)) 0) _ t);
-        fat-is = sameList-true _ _ (both_left (same_list fat (openFat S img h n)) _ t1);
-        fats-are = sameList-true _ _ (both_left (same_list fats (fatsIn S img h n)) _ t2);
-        difats-are = sameList-true _ _ (both_left (same_list difats (difatsIn S img h n)) _ t3);
-        marks-are = sameList-true _ _ (both_right (same_list difats (difatsIn S img h n)) _ t3);
+        rows = eqb-true _ _ (both_left (eqb (refusal (table_rows strict S img h n)) 0) _ t);
+        fat_is = sameList_true _ _ (both_left (same_list fat (open_fat S img h n)) _ t1);
+        fats_are = sameList_true _ _ (both_left (same_list fats (fats_in S img h n)) _ t2);
+        difats_are = sameList_true _ _ (both_left (same_list difats (difats_in S img h n)) _ t3);
+        marks_are = sameList_true _ _ (both_right (same_list difats (difats_in S img h n)) _ t3);
       }
 
-  fronts-of : Fronts strict S img h n fat fats difats marks → tablesSame strict S img h n fat fats difats marks ≡ true
-  unfolding tablesSame
-  fronts-of f = both_true (eq-eqb _ _ f.rows) (both_true (same_of _ _ f.fat-is) (both_true (same_of _ _ f.fats-are) (both_true (same_of _ _ f.difats-are) (same_of _ _ f.marks-are))))
+  fronts_of : Fronts strict S img h n fat fats difats marks → tables_same strict S img h n fat fats difats marks ≡ true
+  unfolding tables_same
+  fronts_of f = both_true (eq-eqb _ _ f.rows) (both_true (same_of _ _ f.fat_is) (both_true (same_of _ _ f.fats_are) (both_true (same_of _ _ f.difats_are) (same_of _ _ f.marks_are))))
 
-  pub fronts-exactly : (tablesSame strict S img h n fat fats difats marks ≡ true → Fronts strict S img h n fat fats difats marks) × (Fronts strict S img h n fat fats difats marks → tablesSame strict S img h n fat fats difats marks ≡ true)
-  fronts-exactly = (fronts-true, fronts-of)
+  pub fronts_exactly : (tables_same strict S img h n fat fats difats marks ≡ true → Fronts strict S img h n fat fats difats marks) × (Fronts strict S img h n fat fats difats marks → tables_same strict S img h n fat fats difats marks ≡ true)
+  fronts_exactly = (fronts_true, fronts_of)
 
   -- a refusal of the lists, of the tail, of the FAT
-  pub tables-lists : listsSame S img h n fats difats ≡ false → false ≡ tablesSame strict S img h n fat fats difats marks
-  unfolding listsSame
-  tables-lists g =
-      refutes _ (λ t. let f = fronts-true t in not-both (both_true (rows-lists strict S img h n f.rows) (both_true (same_of _ _ f.difats-are) (same_of _ _ f.fats-are))) g)
+  pub tables_lists : lists_same S img h n fats difats ≡ false → false ≡ tables_same strict S img h n fat fats difats marks
+  unfolding lists_same
+  tables_lists g =
+      refutes _ (λ t. let f = fronts_true t in not_both (both_true (rows_lists strict S img h n f.rows) (both_true (same_of _ _ f.difats_are) (same_of _ _ f.fats_are))) g)
 
-  pub tables-tail : tailFree S img fats n ≡ false → false ≡ tablesSame strict S img h n fat fats difats marks
-  tables-tail g = refutes _ (λ t. let f = fronts-true t in not-both (ap (λ (x : List ℕ). tailFree S img x n) f.fats-are ∙ rows-tail strict S img h n f.rows) g)
+  pub tables_tail : tail_free S img fats n ≡ false → false ≡ tables_same strict S img h n fat fats difats marks
+  tables_tail g = refutes _ (λ t. let f = fronts_true t in not_both (ap (λ (x : List ℕ). tail_free S img x n) f.fats_are ∙ rows_tail strict S img h n f.rows) g)
 
-  module _ (small : n ≤ maxRegular) (long : length fat ≡ n) where
+  module _ (small : n ≤ max_regular) (long : length fat ≡ n) where
     abbrev raw : List ℕ
-    raw = fatOf S img fats n
+    raw = fat_of S img fats n
 
     wide : length raw ≡ n
-    unfolding fatOf
-    wide = length-tab _ n
+    unfolding fat_of
+    wide = length_tab _ n
 
     -- what the lists say of the image's FAT and of its rows
-    raw-own : fats ≡ fatsIn S img h n → rawFat S img h n ≡ raw
-    unfolding rawFat
-    raw-own e = ap (λ (x : List ℕ). fatOf S img x n) (sym e)
+    raw_own : fats ≡ fats_in S img h n → raw_fat S img h n ≡ raw
+    unfolding raw_fat
+    raw_own e = ap (λ (x : List ℕ). fat_of S img x n) (sym e)
 
-    open_own : fats ≡ fatsIn S img h n → difats ≡ difatsIn S img h n → openFat S img h n ≡ forgivenFat n (markedFat raw difats fats)
-    unfolding openFat judgedFat
-    open_own e d = rw (raw-own e, ← e, ← d)
+    open_own : fats ≡ fats_in S img h n → difats ≡ difats_in S img h n → open_fat S img h n ≡ forgiven_fat n (marked_fat raw difats fats)
+    unfolding open_fat judged_fat
+    open_own e d = rw (raw_own e, ← e, ← d)
 
-    rows-own : fats ≡ fatsIn S img h n → difats ≡ difatsIn S img h n → refusal (fatRows strict n (rawFat S img h n) (difatsIn S img h n) (fatsIn S img h n)) ≡ refusal (fatRows strict n raw difats fats)
-    rows-own e d = rw (raw-own e, ← e, ← d)
+    rows_own : fats ≡ fats_in S img h n → difats ≡ difats_in S img h n → refusal (fat_rows strict n (raw_fat S img h n) (difats_in S img h n) (fats_in S img h n)) ≡ refusal (fat_rows strict n raw difats fats)
+    rows_own e d = rw (raw_own e, ← e, ← d)
 
     passes : Fronts strict S img h n fat fats difats marks → Passed strict n raw difats fats
-    passes f = rows-passed strict n raw difats fats wide (sym (rows-own f.fats-are f.difats-are) ∙ rows-fat strict S img h n f.rows)
+    passes f = rows_passed strict n raw difats fats wide (sym (rows_own f.fats_are f.difats_are) ∙ rows_fat strict S img h n f.rows)
 
-    pub tables-fat : fatSame strict raw difats fats fat ≡ false → false ≡ tablesSame strict S img h n fat fats difats marks
-    tables-fat g =
-        refutes _ (λ t. let f = fronts-true t in not-both (same-fat strict n raw difats fats fat small wide long (f.fat-is ∙ open_own f.fats-are f.difats-are) (passes f)) g)
+    pub tables_fat : fat_same strict raw difats fats fat ≡ false → false ≡ tables_same strict S img h n fat fats difats marks
+    tables_fat g =
+        refutes _ (λ t. let f = fronts_true t in not_both (same_fat strict n raw difats fats fat small wide long (f.fat_is ∙ open_own f.fats_are f.difats_are) (passes f)) g)
 
     -- and then the entries and the marks decide
-    pub tables-told : (r : Bool) → listsSame S img h n fats difats ≡ true → tailFree S img fats n ≡ true → fatSame strict raw difats fats fat ≡ true → r ≡ pointsSame fat marks
-        → r ≡ tablesSame strict S img h n fat fats difats marks
-    unfolding listsSame pointsSame
-    tables-told r l t s e =
-        e ∙ same_test (both (pointsOnce fat) (both (same_list marks (marksOf (length fat) fat)) (noneDangles (length fat) fat))) (tablesSame strict S img h n fat fats difats marks)
+    pub tables_told : (r : Bool) → lists_same S img h n fats difats ≡ true → tail_free S img fats n ≡ true → fat_same strict raw difats fats fat ≡ true → r ≡ points_same fat marks
+        → r ≡ tables_same strict S img h n fat fats difats marks
+    unfolding lists_same points_same
+    tables_told r l t s e =
+        e ∙ same_test (both (points_once fat) (both (same_list marks (marks_of (length fat) fat)) (none_dangles (length fat) fat))) (tables_same strict S img h n fat fats difats marks)
         (λ q.
-        let o : pointsOnce fat ≡ true = both_left (pointsOnce fat) _ q in
-        let q' = both_right (pointsOnce fat) (both (same_list marks (marksOf (length fat) fat)) (noneDangles (length fat) fat)) q in
-        let m : marks ≡ marksOf (length fat) fat = sameList-true _ _ (both_left (same_list marks (marksOf (length fat) fat)) (noneDangles (length fat) fat) q') in
-        let d : noneDangles (length fat) fat ≡ true = both_right (same_list marks (marksOf (length fat) fat)) _ q' in
-        fronts-of record {
-          rows = rows_all strict S img h n right (ap (λ (x : List ℕ). tailFree S img x n) (sym own-fats) ∙ t)
-              (rows-own own-fats own-difats ∙ passed-rows strict n raw difats fats wide (points-passed strict n raw difats fats fat small wide long s o d));
-          fat-is = opened;
-          fats-are = own-fats;
-          difats-are = own-difats;
-          marks-are = m ∙ ap (λ (k : ℕ). marksOf k fat) long ∙ ap (marksOf n) opened;
+        let o : points_once fat ≡ true = both_left (points_once fat) _ q in
+        let q' = both_right (points_once fat) (both (same_list marks (marks_of (length fat) fat)) (none_dangles (length fat) fat)) q in
+        let m : marks ≡ marks_of (length fat) fat = sameList_true _ _ (both_left (same_list marks (marks_of (length fat) fat)) (none_dangles (length fat) fat) q') in
+        let d : none_dangles (length fat) fat ≡ true = both_right (same_list marks (marks_of (length fat) fat)) _ q' in
+        fronts_of record {
+          rows = rows_all strict S img h n right (ap (λ (x : List ℕ). tail_free S img x n) (sym own_fats) ∙ t)
+              (rows_own own_fats own_difats ∙ passed_rows strict n raw difats fats wide (points_passed strict n raw difats fats fat small wide long s o d));
+          fat_is = opened;
+          fats_are = own_fats;
+          difats_are = own_difats;
+          marks_are = m ∙ ap (λ (k : ℕ). marks_of k fat) long ∙ ap (marks_of n) opened;
         })
         (λ q.
-        let f = fronts-true q in
-        let p = passed-points strict n raw difats fats fat small wide long (f.fat-is ∙ open_own f.fats-are f.difats-are) (passes f) in
-        both_true p.0 (both_true (same_of marks _ (f.marks-are ∙ ap (marksOf n) (sym f.fat-is) ∙ ap (λ (k : ℕ). marksOf k fat) (sym long))) p.1))
+        let f = fronts_true q in
+        let p = passed_points strict n raw difats fats fat small wide long (f.fat_is ∙ open_own f.fats_are f.difats_are) (passes f) in
+        both_true p.0 (both_true (same_of marks _ (f.marks_are ∙ ap (marks_of n) (sym f.fat_is) ∙ ap (λ (k : ℕ). marks_of k fat) (sym long))) p.1))
       where
-        right : listsRight S img h n ≡ true
-        right = both_left (listsRight S img h n) (both (same_list difats (difatsIn S img h n)) (same_list fats (fatsIn S img h n))) l
+        right : lists_right S img h n ≡ true
+        right = both_left (lists_right S img h n) (both (same_list difats (difats_in S img h n)) (same_list fats (fats_in S img h n))) l
 
-        own : both (same_list difats (difatsIn S img h n)) (same_list fats (fatsIn S img h n)) ≡ true
-        own = both_right (listsRight S img h n) (both (same_list difats (difatsIn S img h n)) (same_list fats (fatsIn S img h n))) l
+        own : both (same_list difats (difats_in S img h n)) (same_list fats (fats_in S img h n)) ≡ true
+        own = both_right (lists_right S img h n) (both (same_list difats (difats_in S img h n)) (same_list fats (fats_in S img h n))) l
 
-        own-difats : difats ≡ difatsIn S img h n
-        own-difats = sameList-true _ _ (both_left (same_list difats (difatsIn S img h n)) (same_list fats (fatsIn S img h n)) own)
+        own_difats : difats ≡ difats_in S img h n
+        own_difats = sameList_true _ _ (both_left (same_list difats (difats_in S img h n)) (same_list fats (fats_in S img h n)) own)
 
-        own-fats : fats ≡ fatsIn S img h n
-        own-fats = sameList-true _ _ (both_right (same_list difats (difatsIn S img h n)) (same_list fats (fatsIn S img h n)) own)
+        own_fats : fats ≡ fats_in S img h n
+        own_fats = sameList_true _ _ (both_right (same_list difats (difats_in S img h n)) (same_list fats (fats_in S img h n)) own)
 
-        opened : fat ≡ openFat S img h n
-        opened = fat-forgiven strict n raw difats fats fat small wide long s ∙ sym (open_own own-fats own-difats)
+        opened : fat ≡ open_fat S img h n
+        opened = fat_forgiven strict n raw difats fats fat small wide long s ∙ sym (open_own own_fats own_difats)
 
 -- lists that are right cover the FAT's entries
-lists-loaded : (S : ℕ) (img : List ℕ) (h : Header) (n : ℕ) (fats difats : List ℕ) → listsSame S img h n fats difats ≡ true → ListsLoaded S img h n true fats difats
-unfolding listsSame
-lists-loaded S img h n fats difats l =
-    let own : both (same_list difats (difatsIn S img h n)) (same_list fats (fatsIn S img h n)) ≡ true = both_right (listsRight S img h n) (both (same_list difats (difatsIn S img h n)) (same_list fats (fatsIn S img h n))) l in
+lists_loaded : (S : ℕ) (img : List ℕ) (h : Header) (n : ℕ) (fats difats : List ℕ) → lists_same S img h n fats difats ≡ true → ListsLoaded S img h n true fats difats
+unfolding lists_same
+lists_loaded S img h n fats difats l =
+    let own : both (same_list difats (difats_in S img h n)) (same_list fats (fats_in S img h n)) ≡ true = both_right (lists_right S img h n) (both (same_list difats (difats_in S img h n)) (same_list fats (fats_in S img h n))) l in
     record {
-      right = sym (both_left (listsRight S img h n) (both (same_list difats (difatsIn S img h n)) (same_list fats (fatsIn S img h n))) l);
-      difats-hold = λ t. sameList-true _ _ (both_left (same_list difats (difatsIn S img h n)) (same_list fats (fatsIn S img h n)) own);
-      fats-hold = λ t. sameList-true _ _ (both_right (same_list difats (difatsIn S img h n)) (same_list fats (fatsIn S img h n)) own);
+      right = sym (both_left (lists_right S img h n) (both (same_list difats (difats_in S img h n)) (same_list fats (fats_in S img h n))) l);
+      difats_hold = λ t. sameList_true _ _ (both_left (same_list difats (difats_in S img h n)) (same_list fats (fats_in S img h n)) own);
+      fats_hold = λ t. sameList_true _ _ (both_right (same_list difats (difats_in S img h n)) (same_list fats (fats_in S img h n)) own);
     }
 
-pub tables-cover : (S : ℕ) (img : List ℕ) (h : Header) (n : ℕ) (fats difats : List ℕ) (len marks scratch : ℕ) → TablesLent S len n (length fats) (length difats) marks scratch
-    → listsSame S img h n fats difats ≡ true → Covers S n len fats n
-tables-cover S img h n fats difats len marks scratch p l = lists-cover S img h n true fats difats (lists-loaded S img h n fats difats l) refl len (length fats) (length difats) p.counted refl
+pub tables_cover : (S : ℕ) (img : List ℕ) (h : Header) (n : ℕ) (fats difats : List ℕ) (len marks scratch : ℕ) → TablesLent S len n (length fats) (length difats) marks scratch
+    → lists_same S img h n fats difats ≡ true → Covers S n len fats n
+tables_cover S img h n fats difats len marks scratch p l = lists_cover S img h n true fats difats (lists_loaded S img h n fats difats l) refl len (length fats) (length difats) p.counted refl
 
-pub tables-fat-lent : (S : ℕ) (img : List ℕ) (h : Header) (n : ℕ) (fats difats : List ℕ) (len marks scratch room : ℕ) → TablesLent S len n (length fats) (length difats) marks scratch
-    → listsSame S img h n fats difats ≡ true → room ≡ n → FatLent S len difats fats n room
-tables-fat-lent S img h n fats difats len marks scratch room p l e =
+pub tables_fat_lent : (S : ℕ) (img : List ℕ) (h : Header) (n : ℕ) (fats difats : List ℕ) (len marks scratch room : ℕ) → TablesLent S len n (length fats) (length difats) marks scratch
+    → lists_same S img h n fats difats ≡ true → room ≡ n → FatLent S len difats fats n room
+tables_fat_lent S img h n fats difats len marks scratch room p l e =
     record {
-      covers = tables-cover S img h n fats difats len marks scratch p l;
-      below = lists-difats S img h n true fats difats (lists-loaded S img h n fats difats l) refl;
+      covers = tables_cover S img h n fats difats len marks scratch p l;
+      below = lists_difats S img h n true fats difats (lists_loaded S img h n fats difats l) refl;
       same = e;
     }

@@ -10,98 +10,98 @@ use lib.Dec.{eqb}
 use lib.ListN.{length, get_or, take, drop, replicate, length-drop, length-replicate, get_or-replicate, take-append-drop}
 use lib.Seq.{ext_get_or, drop_at, take_all}
 use Rattle.lists.specs.Lists.{both, same_list}
-use Rattle.lists.proofs.Cases.{both_true, both_left, both_right, same_test, every-at, every_of, and_both}
-use Rattle.lists.proofs.Splice.{sameList-true, sameList-refl}
-use Rattle.header.specs.Versions.{majorOf}
+use Rattle.lists.proofs.Cases.{both_true, both_left, both_right, same_test, every_at, every_of, and_both}
+use Rattle.lists.proofs.Splice.{sameList_true, sameList_refl}
+use Rattle.header.specs.Versions.{major_of}
 use Rattle.header.specs.declared.Version.{Version}
 use Rattle.header.specs.declared.Version.TheVariants.{V3, V4}
 use Rattle.header.specs.declared.Header.{Header}
 use Rattle.alloc.specs.Opening.{Tables, padded}
-use Rattle.alloc.proofs.Filled.{front-padded}
+use Rattle.alloc.proofs.Filled.{front_padded}
 use Rattle.points.proofs.Testing.{same_of}
-use Rattle.agree.specs.Agree.{sameFields, sameHeader, holds}
-use Rattle.agree.specs.Parts.{allZero, tailsZero}
+use Rattle.agree.specs.Agree.{same_fields, same_header, holds}
+use Rattle.agree.specs.Parts.{all_zero, tails_zero}
 
 -- versions with one number are one
-major-one : (v w : Version) → majorOf v ≡ majorOf w → v ≡ w
-major-one V3 V3 e = refl
-major-one V3 V4 e = absurd (omega arith)
-major-one V4 V3 e = absurd (omega arith)
-major-one V4 V4 e = refl
+major_one : (v w : Version) → major_of v ≡ major_of w → v ≡ w
+major_one V3 V3 e = refl
+major_one V3 V4 e = absurd (omega arith)
+major_one V4 V3 e = absurd (omega arith)
+major_one V4 V4 e = refl
 
 -- the test of two headers says that they are one header
-same-header : {a b : Header} → a.version ≡ b.version → a.dirs ≡ b.dirs → a.fats ≡ b.fats → a.dir ≡ b.dir → a.minifat ≡ b.minifat → a.minifats ≡ b.minifats → a.difat ≡ b.difat
+same_header_lem : {a b : Header} → a.version ≡ b.version → a.dirs ≡ b.dirs → a.fats ≡ b.fats → a.dir ≡ b.dir → a.minifat ≡ b.minifat → a.minifats ≡ b.minifats → a.difat ≡ b.difat
     → a.difats ≡ b.difats → a.list ≡ b.list → a ≡ b
-same-header p q u v w x y z l =
+same_header_lem p q u v w x y z l =
     λ i. record { version = p i; dirs = q i; fats = u i; dir = v i; minifat = w i; minifats = x i; difat = y i; difats = z i; list = l i }
 
-header-true : (a b : Header) → sameHeader a b ≡ true → a ≡ b
-unfolding sameHeader sameFields
-header-true a b t =
-    let f : sameFields a b ≡ true = both_left (sameFields a b) (same_list a.list b.list) t in
-    let f1 = both_right (eqb (majorOf a.version) (majorOf b.version)) _ f in
+header_true : (a b : Header) → same_header a b ≡ true → a ≡ b
+unfolding same_header same_fields
+header_true a b t =
+    let f : same_fields a b ≡ true = both_left (same_fields a b) (same_list a.list b.list) t in
+    let f1 = both_right (eqb (major_of a.version) (major_of b.version)) _ f in
     let f2 = both_right (eqb a.dirs b.dirs) _ f1 in
     let f3 = both_right (eqb a.fats b.fats) _ f2 in
     let f4 = both_right (eqb a.dir b.dir) _ f3 in
     let f5 = both_right (eqb a.minifat b.minifat) _ f4 in
     let f6 = both_right (eqb a.minifats b.minifats) _ f5 in
     let f7 = both_right (eqb a.difat b.difat) _ f6 in
-    same-header (major-one _ _ (eqb-true _ _ (both_left _ _ f))) (eqb-true _ _ (both_left _ _ f1)) (eqb-true _ _ (both_left _ _ f2)) (eqb-true _ _ (both_left _ _ f3)) (eqb-true _ _ (both_left _ _ f4))
-    (eqb-true _ _ (both_left _ _ f5)) (eqb-true _ _ (both_left _ _ f6)) (eqb-true _ _ f7) (sameList-true _ _ (both_right (sameFields a b) _ t))
+    same_header_lem (major_one _ _ (eqb-true _ _ (both_left _ _ f))) (eqb-true _ _ (both_left _ _ f1)) (eqb-true _ _ (both_left _ _ f2)) (eqb-true _ _ (both_left _ _ f3)) (eqb-true _ _ (both_left _ _ f4))
+    (eqb-true _ _ (both_left _ _ f5)) (eqb-true _ _ (both_left _ _ f6)) (eqb-true _ _ f7) (sameList_true _ _ (both_right (same_fields a b) _ t))
 
-header-refl : (a : Header) → sameHeader a a ≡ true
-unfolding sameHeader sameFields
-header-refl a =
+header_refl : (a : Header) → same_header a a ≡ true
+unfolding same_header same_fields
+header_refl a =
     both_true
-    (both_true (eq-eqb (majorOf a.version) (majorOf a.version) refl) (both_true (eq-eqb a.dirs a.dirs refl) (both_true (eq-eqb a.fats a.fats refl) (both_true (eq-eqb a.dir a.dir refl)
+    (both_true (eq-eqb (major_of a.version) (major_of a.version) refl) (both_true (eq-eqb a.dirs a.dirs refl) (both_true (eq-eqb a.fats a.fats refl) (both_true (eq-eqb a.dir a.dir refl)
     (both_true (eq-eqb a.minifat a.minifat refl) (both_true (eq-eqb a.minifats a.minifats refl) (both_true (eq-eqb a.difat a.difat refl) (eq-eqb a.difats a.difats refl))))))))
-    (sameList-refl a.list)
+    (sameList_refl a.list)
 
-pub header-exactly : (a b : Header) → sameHeader a b ≡ true ↔ a ≡ b
-header-exactly a b = (header-true a b, λ e. ap (sameHeader a) (sym e) ∙ header-refl a)
+pub header_exactly : (a b : Header) → same_header a b ≡ true ↔ a ≡ b
+header_exactly a b = (header_true a b, λ e. ap (same_header a) (sym e) ∙ header_refl a)
 
 -- a list of zeros, place by place
-zero-at : (xs : List ℕ) → allZero xs ≡ true → (i : ℕ) → i < length xs → get_or xs i 0 ≡ 0
-unfolding allZero
-zero-at xs t i h = eqb-true _ 0 (every-at (length xs) (λ k. eqb (get_or xs k 0) 0) t i h)
+zero_at : (xs : List ℕ) → all_zero xs ≡ true → (i : ℕ) → i < length xs → get_or xs i 0 ≡ 0
+unfolding all_zero
+zero_at xs t i h = eqb-true _ 0 (every_at (length xs) (λ k. eqb (get_or xs k 0) 0) t i h)
 
-zero_of : (xs : List ℕ) → ((i : ℕ) → i < length xs → get_or xs i 0 ≡ 0) → allZero xs ≡ true
-unfolding allZero
+zero_of : (xs : List ℕ) → ((i : ℕ) → i < length xs → get_or xs i 0 ≡ 0) → all_zero xs ≡ true
+unfolding all_zero
 zero_of xs h = every_of (length xs) (λ k. eqb (get_or xs k 0) 0) (λ i l. eq-eqb _ 0 (h i l))
 
-pub zeros-are : (xs : List ℕ) (m : ℕ) → length xs ≡ m → allZero xs ≡ same_list xs (replicate m 0)
-zeros-are xs m e =
-    same_test (allZero xs) (same_list xs (replicate m 0))
+pub zeros_are : (xs : List ℕ) (m : ℕ) → length xs ≡ m → all_zero xs ≡ same_list xs (replicate m 0)
+zeros_are xs m e =
+    same_test (all_zero xs) (same_list xs (replicate m 0))
     (λ t. same_of xs (replicate m 0)
-    (ext_get_or 0 xs (replicate m 0) (e ∙ sym (length-replicate {A = ℕ} m 0)) (λ i h. let l : i < m = omega arith in zero-at xs t i h ∙ sym (get_or-replicate m i 0 0 l))))
-    (λ t. zero_of xs (λ i h. let l : i < m = omega arith in ap (λ (l : List ℕ). get_or l i 0) (sameList-true xs (replicate m 0) t) ∙ get_or-replicate m i 0 0 l))
+    (ext_get_or 0 xs (replicate m 0) (e ∙ sym (length-replicate {A = ℕ} m 0)) (λ i h. let l : i < m = omega arith in zero_at xs t i h ∙ sym (get_or-replicate m i 0 0 l))))
+    (λ t. zero_of xs (λ i h. let l : i < m = omega arith in ap (λ (l : List ℕ). get_or l i 0) (sameList_true xs (replicate m 0) t) ∙ get_or-replicate m i 0 0 l))
 
 -- a table holds a list and then zeros exactly when its front is the list and its rest is zero
-pub padded-rest : (t xs : List ℕ) (k : ℕ) → length xs ≡ k → t ≡ padded xs (length t) → drop k t ≡ replicate (length t - k) 0
+pub padded_rest : (t xs : List ℕ) (k : ℕ) → length xs ≡ k → t ≡ padded xs (length t) → drop k t ≡ replicate (length t - k) 0
 unfolding padded
-padded-rest t xs k e l = ap (drop k) l ∙ drop_at xs (replicate (length t - length xs) 0) k e ∙ ap (λ (z : ℕ). replicate (length t - z) 0) e
+padded_rest t xs k e l = ap (drop k) l ∙ drop_at xs (replicate (length t - length xs) 0) k e ∙ ap (λ (z : ℕ). replicate (length t - z) 0) e
 
-padded-of : (t xs : List ℕ) (k : ℕ) → length xs ≡ k → take k t ≡ xs → drop k t ≡ replicate (length t - k) 0 → t ≡ padded xs (length t)
+padded_of : (t xs : List ℕ) (k : ℕ) → length xs ≡ k → take k t ≡ xs → drop k t ≡ replicate (length t - k) 0 → t ≡ padded xs (length t)
 unfolding padded
-padded-of t xs k e f z =
+padded_of t xs k e f z =
     sym (take-append-drop k t)
     ∙ ap (λ (l : List ℕ). l ++ drop k t) f
     ∙ ap (λ (l : List ℕ). xs ++ l) (z ∙ ap (λ (q : ℕ). replicate (length t - q) 0) (sym e))
 
-pub holds-front : (t xs : List ℕ) (k : ℕ) → length xs ≡ k → holds t xs ≡ both (same_list (take k t) xs) (allZero (drop k t))
+pub holds_front : (t xs : List ℕ) (k : ℕ) → length xs ≡ k → holds t xs ≡ both (same_list (take k t) xs) (all_zero (drop k t))
 unfolding holds
-holds-front t xs k e =
-    same_test (same_list t (padded xs (length t))) (both (same_list (take k t) xs) (allZero (drop k t)))
-    (λ q. let l : t ≡ padded xs (length t) = sameList-true _ _ q in
-    both_true (same_of _ _ (front-padded xs t k (length t) l e)) (zeros-are (drop k t) (length t - k) (length-drop k t) ∙ same_of _ _ (padded-rest t xs k e l)))
-    (λ q. same_of _ _ (padded-of t xs k e (sameList-true _ _ (both_left _ (allZero (drop k t)) q))
-    (sameList-true _ _ (sym (zeros-are (drop k t) (length t - k) (length-drop k t)) ∙ both_right (same_list (take k t) xs) _ q))))
+holds_front t xs k e =
+    same_test (same_list t (padded xs (length t))) (both (same_list (take k t) xs) (all_zero (drop k t)))
+    (λ q. let l : t ≡ padded xs (length t) = sameList_true _ _ q in
+    both_true (same_of _ _ (front_padded xs t k (length t) l e)) (zeros_are (drop k t) (length t - k) (length-drop k t) ∙ same_of _ _ (padded_rest t xs k e l)))
+    (λ q. same_of _ _ (padded_of t xs k e (sameList_true _ _ (both_left _ (all_zero (drop k t)) q))
+    (sameList_true _ _ (sym (zeros_are (drop k t) (length t - k) (length-drop k t)) ∙ both_right (same_list (take k t) xs) _ q))))
 
 -- the eight numbers of two headers, tested one by one
-pub fields-same : (a b : Header) (v w : ℕ) → v ≡ majorOf a.version → w ≡ majorOf b.version
-    → (eqb v w && (eqb a.dirs b.dirs && (eqb a.fats b.fats && (eqb a.dir b.dir && (eqb a.minifat b.minifat && (eqb a.minifats b.minifats && (eqb a.difat b.difat && eqb a.difats b.difats))))))) ≡ sameFields a b
-unfolding sameFields
-fields-same a b v w e f =
+pub fields_same : (a b : Header) (v w : ℕ) → v ≡ major_of a.version → w ≡ major_of b.version
+    → (eqb v w && (eqb a.dirs b.dirs && (eqb a.fats b.fats && (eqb a.dir b.dir && (eqb a.minifat b.minifat && (eqb a.minifats b.minifats && (eqb a.difat b.difat && eqb a.difats b.difats))))))) ≡ same_fields a b
+unfolding same_fields
+fields_same a b v w e f =
     all (eqb v w) (eqb a.dirs b.dirs) (eqb a.fats b.fats) (eqb a.dir b.dir) (eqb a.minifat b.minifat) (eqb a.minifats b.minifats) (eqb a.difat b.difat) (eqb a.difats b.difats)
     ∙ rw (e, f)
   where
@@ -110,16 +110,16 @@ fields-same a b v w e f =
         and_both p _ ∙ ap (both p) (and_both q _ ∙ ap (both q) (and_both x _ ∙ ap (both x) (and_both y _ ∙ ap (both y) (and_both z _ ∙ ap (both z) (and_both u _ ∙ ap (both u) (and_both k l))))))
 
 -- past the end nothing is left
-pub zeros-none : (xs : List ℕ) (k : ℕ) → length xs ≤ k → true ≡ allZero (drop k xs)
-zeros-none xs k h = sym (zero_of (drop k xs) (λ i l. absurd (omega (arith, length-drop k xs))))
+pub zeros_none : (xs : List ℕ) (k : ℕ) → length xs ≤ k → true ≡ all_zero (drop k xs)
+zeros_none xs k h = sym (zero_of (drop k xs) (λ i l. absurd (omega (arith, length-drop k xs))))
 
 -- a rest that was lent as a part
-pub zeros-rest : (xs : List ℕ) (k : ℕ) → allZero (take (length xs - k) (drop k xs)) ≡ allZero (drop k xs)
-zeros-rest xs k = ap allZero (take_all (length xs - k) (drop k xs) (simp length-drop (omega arith)))
+pub zeros_rest : (xs : List ℕ) (k : ℕ) → all_zero (take (length xs - k) (drop k xs)) ≡ all_zero (drop k xs)
+zeros_rest xs k = ap all_zero (take_all (length xs - k) (drop k xs) (simp length-drop (omega arith)))
 
 -- the rests of five tables
-pub tails-all : (n k d free : ℕ) (t : Tables) (a b c e f : Bool) → a ≡ allZero (drop n t.fat) → b ≡ allZero (drop k t.fats) → c ≡ allZero (drop d t.difats) → e ≡ allZero (drop free t.frees)
-    → f ≡ allZero (drop n t.marks) → (a && (b && (c && (e && f)))) ≡ tailsZero n k d free t
-unfolding tailsZero
-tails-all n k d free t a b c e f p q u v w =
+pub tails_all : (n k d free : ℕ) (t : Tables) (a b c e f : Bool) → a ≡ all_zero (drop n t.fat) → b ≡ all_zero (drop k t.fats) → c ≡ all_zero (drop d t.difats) → e ≡ all_zero (drop free t.frees)
+    → f ≡ all_zero (drop n t.marks) → (a && (b && (c && (e && f)))) ≡ tails_zero n k d free t
+unfolding tails_zero
+tails_all n k d free t a b c e f p q u v w =
     and_both a _ ∙ ap (both a) (and_both b _ ∙ ap (both b) (and_both c _ ∙ ap (both c) (and_both e f))) ∙ rw (p, q, u, v, w)

@@ -2,52 +2,52 @@
 use Rattle.std.specs.Prelude.{ℕ, ◌≤◌, ◌≡◌, Bool, true, not, List, eqb, length, get_or, drop}
 use Rattle.lists.specs.Lists.{both, every, same_list}
 use Rattle.lists.specs.Rows.{refusal}
-use Rattle.consts.specs.Consts.{difatSector, fatSector}
+use Rattle.consts.specs.Consts.{difat_sector, fat_sector}
 use Rattle.header.specs.declared.Header.{Header}
 use Rattle.sectors.specs.Sectors.{Holds}
-use Rattle.fat.specs.Lists.{difatsIn, fatsIn, all_below, listsRight}
+use Rattle.fat.specs.Lists.{difats_in, fats_in, all_below, lists_right}
 use Rattle.fat.specs.Loaded.{Counted, Covers, Places}
-use Rattle.judge.specs.Judge.{allMarked, markedFat, forgivenFat, marksOf}
-use Rattle.alloc.specs.Opening.{Tables, openFat, tableRows}
+use Rattle.judge.specs.Judge.{all_marked, marked_fat, forgiven_fat, marks_of}
+use Rattle.alloc.specs.Opening.{Tables, open_fat, table_rows}
 use Rattle.alloc.specs.Opened.{Lent}
 
 -- every number is zero
-unfoldable pub allZero : List ℕ → Bool
-allZero xs = every (length xs) (λ i. eqb (get_or xs i 0) 0)
+unfoldable pub all_zero : List ℕ → Bool
+all_zero xs = every (length xs) (λ i. eqb (get_or xs i 0) 0)
 
 -- both lists as lent are the image's, and right (document 01, 12)
-unfoldable pub listsSame : ℕ → List ℕ → Header → ℕ → List ℕ → List ℕ → Bool
-listsSame S img h n fats difats = both (listsRight S img h n) (both (same_list difats (difatsIn S img h n)) (same_list fats (fatsIn S img h n)))
+unfoldable pub lists_same : ℕ → List ℕ → Header → ℕ → List ℕ → List ℕ → Bool
+lists_same S img h n fats difats = both (lists_right S img h n) (both (same_list difats (difats_in S img h n)) (same_list fats (fats_in S img h n)))
 
 -- the entry of a listed sector is its mark (document 01, 14)
-unfoldable pub listedMarked : List ℕ → List ℕ → List ℕ → Bool
-listedMarked raw difats fats = both (allMarked raw difats difatSector) (allMarked raw fats fatSector)
+unfoldable pub listed_marked : List ℕ → List ℕ → List ℕ → Bool
+listed_marked raw difats fats = both (all_marked raw difats difat_sector) (all_marked raw fats fat_sector)
 
 -- a FAT is that of the bytes, marked and forgiven; strict marks and forgives nothing (document 01, 14 and 15)
-unfoldable pub fatSame : Bool → List ℕ → List ℕ → List ℕ → List ℕ → Bool
-unfolding listedMarked
-fatSame strict raw difats fats fat =
-    both (not (both strict (not (listedMarked raw difats fats))))
-    (both (not (both strict (not (same_list fat (markedFat raw difats fats)))))
-    (same_list fat (forgivenFat (length fat) (markedFat raw difats fats))))
+unfoldable pub fat_same : Bool → List ℕ → List ℕ → List ℕ → List ℕ → Bool
+unfolding listed_marked
+fat_same strict raw difats fats fat =
+    both (not (both strict (not (listed_marked raw difats fats))))
+    (both (not (both strict (not (same_list fat (marked_fat raw difats fats)))))
+    (same_list fat (forgiven_fat (length fat) (marked_fat raw difats fats))))
 
 -- the image opens, and the fronts of the tables hold what it has (document 01, 12 to 18)
-unfoldable pub tablesSame : Bool → ℕ → List ℕ → Header → ℕ → List ℕ → List ℕ → List ℕ → List ℕ → Bool
-tablesSame strict S img h n fat fats difats marks =
-    both (eqb (refusal (tableRows strict S img h n)) 0)
-    (both (same_list fat (openFat S img h n))
-    (both (same_list fats (fatsIn S img h n))
-    (both (same_list difats (difatsIn S img h n))
-    (same_list marks (marksOf n (openFat S img h n))))))
+unfoldable pub tables_same : Bool → ℕ → List ℕ → Header → ℕ → List ℕ → List ℕ → List ℕ → List ℕ → Bool
+tables_same strict S img h n fat fats difats marks =
+    both (eqb (refusal (table_rows strict S img h n)) 0)
+    (both (same_list fat (open_fat S img h n))
+    (both (same_list fats (fats_in S img h n))
+    (both (same_list difats (difats_in S img h n))
+    (same_list marks (marks_of n (open_fat S img h n))))))
 
 -- each table holds zero past its count
-unfoldable pub tailsZero : ℕ → ℕ → ℕ → ℕ → Tables → Bool
-tailsZero n k d free t =
-    both (allZero (drop n t.fat))
-    (both (allZero (drop k t.fats))
-    (both (allZero (drop d t.difats))
-    (both (allZero (drop free t.frees))
-    (allZero (drop n t.marks)))))
+unfoldable pub tails_zero : ℕ → ℕ → ℕ → ℕ → Tables → Bool
+tails_zero n k d free t =
+    both (all_zero (drop n t.fat))
+    (both (all_zero (drop k t.fats))
+    (both (all_zero (drop d t.difats))
+    (both (all_zero (drop free t.frees))
+    (all_zero (drop n t.marks)))))
 
 -- a list of d sectors of an image that holds n, and a room of its length
 pub record ChainRoom (S n len d room : ℕ) : Type 0 where

@@ -1,8 +1,8 @@
 // Comparisons of headers and of lists of numbers. No loop has an early way out: a right list is looked at to its end, on vectors.
 ghost use Rattle.std.specs.Prelude.{◌≡◌, drop};
 ghost use Rattle.lists.specs.Lists.{same_list};
-ghost use Rattle.agree.specs.Agree.{sameFields, sameHeader};
-ghost use Rattle.agree.specs.Parts.{allZero};
+ghost use Rattle.agree.specs.Agree.{same_fields, same_header};
+ghost use Rattle.agree.specs.Parts.{all_zero};
 
 use header::Header;
 
@@ -26,7 +26,7 @@ pub fn same_numbers(a: &[u32], b: &[u32]) -> bool
 
 // Whether two headers agree in all but their lists.
 pub fn same_fields(a: Header, b: Header) -> bool
-    ensures { result ≡ sameFields a b }
+    ensures { result ≡ same_fields a b }
 {
     let v = a.version;
     let w = b.version;
@@ -41,7 +41,7 @@ pub fn same_fields(a: Header, b: Header) -> bool
 
 // Whether two headers are the same.
 pub fn same_header(a: Header, b: Header) -> bool
-    ensures { result ≡ sameHeader a b }
+    ensures { result ≡ same_header a b }
 {
     if !same_fields(a, b) {
         return false;
@@ -53,7 +53,7 @@ pub fn same_header(a: Header, b: Header) -> bool
 
 // Whether every number is zero.
 pub fn zeros(xs: &[u32]) -> bool
-    ensures { result ≡ allZero xs.now }
+    ensures { result ≡ all_zero xs.now }
 {
     let mut zero = true;
     let mut i = 0;
@@ -66,7 +66,7 @@ pub fn zeros(xs: &[u32]) -> bool
 
 // Whether every byte is zero.
 pub fn zero_bytes(xs: &[u8]) -> bool
-    ensures { result ≡ allZero xs.now }
+    ensures { result ≡ all_zero xs.now }
 {
     let mut zero = true;
     let mut i = 0;
@@ -79,7 +79,7 @@ pub fn zero_bytes(xs: &[u8]) -> bool
 
 // Whether every number from a place on is zero.
 pub fn zeros_from(xs: &[u32], from: usize) -> bool
-    ensures { result ≡ allZero (drop from xs.now) }
+    ensures { result ≡ all_zero (drop from xs.now) }
 {
     if xs.len() <= from {
         return true;
@@ -89,7 +89,7 @@ pub fn zeros_from(xs: &[u32], from: usize) -> bool
 
 // Whether every byte from a place on is zero.
 pub fn zero_bytes_from(xs: &[u8], from: usize) -> bool
-    ensures { result ≡ allZero (drop from xs.now) }
+    ensures { result ≡ all_zero (drop from xs.now) }
 {
     if xs.len() <= from {
         return true;

@@ -1,8 +1,8 @@
 // Whether lent lists are those of an image's DIFAT and FAT sectors, and right (document 01, refusal 12).
 ghost use Rattle.std.specs.Prelude.{◌≡◌, length};
 ghost use Rattle.lists.specs.Lists.{both, same_list};
-ghost use Rattle.fat.specs.Lists.{all_below, chainRight, difatAt, difatsOf, ends as endsOf, fatsOf, fatsRight};
-ghost use Rattle.agree.specs.Parts.{ChainLent, ListsLent, PlacesLent, PlacesRoom, ChainRoom, listsSame};
+ghost use Rattle.fat.specs.Lists.{all_below, chain_right, difat_at, difats_of, ends as endsOf, fats_of, fats_right};
+ghost use Rattle.agree.specs.Parts.{ChainLent, ListsLent, PlacesLent, PlacesRoom, ChainRoom, lists_same};
 
 use crate::alike::same_numbers;
 use fat::listed::counts_right;
@@ -20,7 +20,7 @@ pub fn is_chain(
     room: &mut [u32],
 ) -> bool
     requires { ChainRoom s n (length image.now) (length difats.now) (length room.old) }
-    ensures { result ≡ both (both (all_below n (difatsOf s image.now first (length difats.now))) (endsOf (difatAt s image.now first (length difats.now)))) (same_list difats.now (difatsOf s image.now first (length difats.now))) }
+    ensures { result ≡ both (both (all_below n (difats_of s image.now first (length difats.now))) (endsOf (difat_at s image.now first (length difats.now)))) (same_list difats.now (difats_of s image.now first (length difats.now))) }
 {
     if !list_difats(image, s, n, first, room) {
         return false;
@@ -38,7 +38,7 @@ pub fn same_difats(
     scratch: &mut [u32],
 ) -> bool
     requires { ChainLent s n (length image.now) (length difats.now) (length scratch.old) }
-    ensures { result ≡ both (chainRight s image.now first n (length difats.now)) (same_list difats.now (difatsOf s image.now first (length difats.now))) }
+    ensures { result ≡ both (chain_right s image.now first n (length difats.now)) (same_list difats.now (difats_of s image.now first (length difats.now))) }
 {
     let d = difats.len();
     if !is_chain(image, s, n, first, difats, &mut scratch[..d]) {
@@ -58,7 +58,7 @@ pub fn are_places(
     room: &mut [u32],
 ) -> bool
     requires { PlacesRoom s n (length image.now) list.now difats.now (length fats.now) (length room.old) }
-    ensures { result ≡ both (all_below n (fatsOf s image.now list.now difats.now (length fats.now))) (same_list fats.now (fatsOf s image.now list.now difats.now (length fats.now))) }
+    ensures { result ≡ both (all_below n (fats_of s image.now list.now difats.now (length fats.now))) (same_list fats.now (fats_of s image.now list.now difats.now (length fats.now))) }
 {
     if !list_fats(image, s, n, list, difats, room) {
         return false;
@@ -77,7 +77,7 @@ pub fn same_fats(
     scratch: &mut [u32],
 ) -> bool
     requires { PlacesLent s n (length image.now) list.now difats.now (length fats.now) (length scratch.old) }
-    ensures { result ≡ both (fatsRight s image.now n list.now difats.now (length fats.now)) (same_list fats.now (fatsOf s image.now list.now difats.now (length fats.now))) }
+    ensures { result ≡ both (fats_right s image.now n list.now difats.now (length fats.now)) (same_list fats.now (fats_of s image.now list.now difats.now (length fats.now))) }
 {
     let k = fats.len();
     if !are_places(image, s, n, list, difats, fats, &mut scratch[..k]) {
@@ -100,7 +100,7 @@ pub fn same_lists(
     scratch: &mut [u32],
 ) -> bool
     requires { ListsLent s n (length image.now) (length fats.now) (length difats.now) (length scratch.old) }
-    ensures { result ≡ listsSame s image.now h n fats.now difats.now }
+    ensures { result ≡ lists_same s image.now h n fats.now difats.now }
 {
     if !counts_right(h, fats.len(), difats.len()) {
         return false;

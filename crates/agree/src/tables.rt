@@ -1,7 +1,7 @@
 // Whether lent tables are those of an image that opens (document 01, refusals 12 to 18 and 19).
 ghost use Rattle.std.specs.Prelude.{◌≡◌, length};
-ghost use Rattle.fat.specs.Lists.{fatOf};
-ghost use Rattle.agree.specs.Parts.{FatLent, TablesLent, fatSame, tablesSame};
+ghost use Rattle.fat.specs.Lists.{fat_of};
+ghost use Rattle.agree.specs.Parts.{FatLent, TablesLent, fat_same, tables_same};
 
 use crate::listed::same_lists;
 use compare::permissive::same_permissive;
@@ -21,7 +21,7 @@ pub fn same_fat(
     room: &mut [u32],
 ) -> bool
     requires { FatLent s (length image.now) difats.now fats.now (length fat.now) (length room.old) }
-    ensures { result ≡ fatSame strict (fatOf s image.now fats.now (length fat.now)) difats.now fats.now fat.now }
+    ensures { result ≡ fat_same strict (fat_of s image.now fats.now (length fat.now)) difats.now fats.now fat.now }
 {
     if strict {
         return same_strict(image, s, difats, fats, fat);
@@ -42,7 +42,7 @@ pub fn same_tables(
     scratch: &mut [u32],
 ) -> bool
     requires { TablesLent s (length image.now) (length fat.now) (length fats.now) (length difats.now) (length marks.now) (length scratch.old) }
-    ensures { result ≡ tablesSame strict s image.now h (length fat.now) fat.now fats.now difats.now marks.now }
+    ensures { result ≡ tables_same strict s image.now h (length fat.now) fat.now fats.now difats.now marks.now }
 {
     let n = fat.len();
     if !same_lists(image, s, n, h, fats, difats, scratch) {

@@ -3,10 +3,10 @@ ghost use Rattle.std.specs.Prelude.{◌≡◌, ◌≤◌, eqb, length};
 ghost use Rattle.lists.specs.Lists.{both};
 ghost use Rattle.lists.specs.Rows.{refusal};
 ghost use Rattle.header.specs.Versions.{length_of};
-ghost use Rattle.fat.specs.Lists.{roomOf};
-ghost use Rattle.alloc.specs.Opening.{openTables, tableRows};
-ghost use Rattle.agree.specs.Agree.{agreement, tablesHeld};
-ghost use Rattle.agree.specs.Parts.{WholeLent, tailsZero};
+ghost use Rattle.fat.specs.Lists.{room_of};
+ghost use Rattle.alloc.specs.Opening.{open_tables, table_rows};
+ghost use Rattle.agree.specs.Agree.{agreement, tables_held};
+ghost use Rattle.agree.specs.Parts.{WholeLent, tails_zero};
 
 use crate::alike::{same_header, zero_bytes_from, zeros_from};
 use crate::tables::same_tables;
@@ -29,7 +29,7 @@ fn tails_zero(
     frees: &[u32],
     marks: &[u8],
 ) -> bool
-    ensures { result ≡ tailsZero n k d free (record { fat = fat.entry.now; fats = fats.now; difats = difats.now; frees = frees.now; marks = marks.now }) }
+    ensures { result ≡ tails_zero n k d free (record { fat = fat.entry.now; fats = fats.now; difats = difats.now; frees = frees.now; marks = marks.now }) }
 {
     let lists = zeros_from(fats, k)
         & (zeros_from(difats, d) & (zeros_from(frees, free) & zero_bytes_from(marks, n)));
@@ -52,7 +52,7 @@ fn same_whole(
     scratch: &mut [u32],
 ) -> bool
     requires { WholeLent s n (length image.now) (record { fat = fat.now; fats = fats.now; difats = difats.now; frees = frees.now; marks = marks.now }) free (length scratch.old) }
-    ensures { result ≡ both (eqb (refusal (tableRows strict s image.now h n)) 0) (tablesHeld n (openTables s image.now h n) free (record { fat = fat.entry.now; fats = fats.now; difats = difats.now; frees = frees.now; marks = marks.now })) }
+    ensures { result ≡ both (eqb (refusal (table_rows strict s image.now h n)) 0) (tables_held n (open_tables s image.now h n) free (record { fat = fat.entry.now; fats = fats.now; difats = difats.now; frees = frees.now; marks = marks.now })) }
 {
     let k = ceil(n, s / 4);
     let d = ceil(past_header(k), s / 4 - 1);
@@ -90,7 +90,7 @@ pub fn agrees(
     marks: &[u8],
     scratch: &mut [u32],
 ) -> bool
-    requires { roomOf (length_of h.version) (length image.now) ≤ length scratch.old }
+    requires { room_of (length_of h.version) (length image.now) ≤ length scratch.old }
     ensures { result ≡ agreement mode image.now used sectors free h (record { fat = fat.entry.now; fats = fats.now; difats = difats.now; frees = frees.now; marks = marks.now }) }
 {
     let short = shortest(fat, fats, difats, frees, marks);

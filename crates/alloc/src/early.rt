@@ -2,7 +2,7 @@
 ghost use Rattle.std.specs.Prelude.{◌≡◌, ◌≤◌};
 ghost use Rattle.header.specs.Versions.{length_of};
 ghost use Rattle.header.specs.Read.{none};
-ghost use Rattle.fat.specs.Lists.{roomOf};
+ghost use Rattle.fat.specs.Lists.{room_of};
 ghost use Rattle.alloc.specs.Early.{EarlySays};
 
 use header::{Header, Validation, Version};
@@ -22,7 +22,7 @@ pub struct Early {
 // The room R of a lent image of so many bytes, by its sectors' length.
 pub(crate) fn room(s: usize, lent: usize) -> usize
     requires { 1 ≤ s }
-    ensures { result ≡ roomOf s lent }
+    ensures { result ≡ room_of s lent }
 {
     let whole = lent / s;
     if whole == 0 {
@@ -36,7 +36,7 @@ pub(crate) fn room(s: usize, lent: usize) -> usize
 
 // The room R of a lent image of so many bytes, by its version.
 pub fn room_of(version: Version, lent: usize) -> usize
-    ensures { result ≡ roomOf (length_of version) lent }
+    ensures { result ≡ room_of (length_of version) lent }
 {
     room(version.sector_len(), lent)
 }

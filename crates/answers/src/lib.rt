@@ -1,6 +1,6 @@
 // The readings, the writings and the short lists on the list that the program `replay` reads, each asked of the library again.
 ghost use Rattle.std.specs.Prelude.{◌≡◌, ℕ, ◌≤◌, true, length, take, slice_index};
-ghost use Rattle.header.specs.Write.{writeNo};
+ghost use Rattle.header.specs.Write.{write_no};
 ghost use Rattle.answers.specs.Answers.{ReadAgrees, WriteAgrees, ListAgrees, LineAt, ListedAs, before, after as after_of};
 
 use consts::Item;
@@ -45,7 +45,7 @@ fn put_before(buf: &mut [u8])
 
 // Whether writing a header gives a number and leaves certain bytes.
 fn written_as(h: Header, buf: &mut [u8], number: u32, after: &[u8]) -> bool
-    ensures { result ≡ true → (writeNo h (length buf.old) ≡ number) × (after_of h (length buf.old) ≡ after.now) }
+    ensures { result ≡ true → (write_no h (length buf.old) ≡ number) × (after_of h (length buf.old) ≡ after.now) }
 {
     put_before(buf);
     let verdict = h.write_to(buf);

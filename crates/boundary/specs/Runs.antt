@@ -7,10 +7,10 @@ use Rattle.agree.specs.Agrees.{Permuted}
 use Rattle.moves.specs.declared.change.Edit.{Edit}
 use Rattle.moves.specs.declared.change.Edit.TheVariants.{Write, Resize}
 use Rattle.layout.specs.Layout.{mode_of}
-use Rattle.states.specs.States.{stateWords, holds, heldIn}
+use Rattle.states.specs.States.{state_words, holds, held_in}
 use Rattle.export.specs.Opening.{OpenGives}
 use Rattle.export.specs.Changes.{EditChainGives}
-use Rattle.promises.specs.Demand.{InHand, Asked, Call, askedNo, startAfter, Promised}
+use Rattle.promises.specs.Demand.{InHand, Asked, Call, asked_no, start_after, Promised}
 
 -- what the caller hands on from one call to the next, untouched: the state's 121 words, and the lent image and tables over their whole lengths
 pub record InWords : Type 0 where
@@ -20,11 +20,11 @@ pub record InWords : Type 0 where
 
 -- what the third demand calls in hand, laid out in words
 abbrev pub worded : InHand → InWords
-worded h = record { words = stateWords h.state; image = h.image; tables = h.tables }
+worded h = record { words = state_words h.state; image = h.image; tables = h.tables }
 
 -- and taken from them again: the state is the one that the words hold
-abbrev pub handIn : InWords → InHand
-handIn w = record { state = heldIn w.words; image = w.image; tables = w.tables }
+abbrev pub hand_in : InWords → InHand
+hand_in w = record { state = held_in w.words; image = w.image; tables = w.tables }
 
 -- what a call gives back: its number, the three words beside it, what is in hand then, and the id list
 pub record Got : Type 0 where
@@ -69,19 +69,19 @@ pub record Same (w : InWords) (r : ℕ) (state img : List ℕ) (t : Tables) : Ty
   pub marks : t.marks ≡ w.tables.marks
   pub frees : Permuted (take (get_or w.words 3 0) t.frees) (take (get_or w.words 3 0) w.tables.frees)
   -- and both free lists hold zeros behind that
-  pub frees-rest : (i : ℕ) → get_or w.words 3 0 ≤ i → i < length w.tables.frees → (get_or t.frees i 0 ≡ 0) × (get_or w.tables.frees i 0 ≡ 0)
+  pub frees_rest : (i : ℕ) → get_or w.words 3 0 ≤ i → i < length w.tables.frees → (get_or t.frees i 0 ≡ 0) × (get_or w.tables.frees i 0 ≡ 0)
 
 -- the third demand of one call by C that gives g
 pub record Keeps (w : InWords) (ids : List ℕ) (a : Asked) (g : Got) : Type 0 where
   -- the number that is returned is that of document 01's table, for the state that the words hold
-  pub number : g.number ≡ askedNo (handIn w) (length ids) a
+  pub number : g.number ≡ asked_no (hand_in w) (length ids) a
   -- the start that the clauses speak of is the second of the three words
-  pub start : g.number ≡ 0 → get_or g.answer 1 0 ≡ startAfter (handIn w) (length ids) a
+  pub start : g.number ≡ 0 → get_or g.answer 1 0 ≡ start_after (hand_in w) (length ids) a
   -- the clauses of the demand hold between what was in hand and what is
-  pub promised : Promised (handIn w) (length ids) a (handIn g.left)
+  pub promised : Promised (hand_in w) (length ids) a (hand_in g.left)
   -- the words that are left hold a state, so that no later call refuses them for their form, and are the words of that state
   pub holding : holds g.left.words ≡ true
-  pub words : stateWords (handIn g.left).state ≡ g.left.words
+  pub words : state_words (hand_in g.left).state ≡ g.left.words
   -- the bytes that are left open afresh, by rasuvelk_open in a strict mode at the length that the second word says, to what is in hand
   pub fresh : (mode r : ℕ) (words img : List ℕ) (t : Tables) → mode_of mode ≡ Strict
       → OpenGives mode g.left.image (get_or g.left.words 1 0) g.left.tables r words img t → Same g.left r words img t

@@ -11,13 +11,13 @@ use lib.Seq.{take_at}
 use Rattle.lists.specs.Lists.{choose}
 use Rattle.lists.specs.Rows.{row, refusal, distinct, fresh}
 use Rattle.lists.proofs.Cases.{same_or}
-use Rattle.lists.proofs.Rows.{stop, pass, append-given, append-none}
+use Rattle.lists.proofs.Rows.{stop, pass, append_given, append_none}
 use Rattle.alloc.specs.Opening.{Tables, padded}
 use Rattle.walk.specs.declared.Walked.{Walked}
 use Rattle.walk.specs.declared.Walked.TheVariants.{Listed, Refused}
 use Rattle.chain.specs.Bytes.{ReadLeft}
-use Rattle.cfb.specs.Calls.{stateLen, agreedRows, walkRows, chainRows, chainNo, chainIds, readRows, readNo, idsLeft, toldBy, told, ChainOpens, ChainReads}
-use Rattle.cfb.specs.Listed.{walkedAs, answerFrom, ChainListed}
+use Rattle.cfb.specs.Calls.{state_len, agreed_rows, walk_rows, chain_rows, chain_no, chain_ids, read_rows, read_no, ids_left, told_by, told, ChainOpens, ChainReads}
+use Rattle.cfb.specs.Listed.{walked_as, answer_from, ChainListed}
 use Rattle.cfb.specs.declared.State.{State}
 use Rattle.cfb.specs.declared.Called.{Called}
 use Rattle.cfb.specs.declared.Answer.{Answer}
@@ -25,60 +25,60 @@ use Rattle.cfb.specs.declared.Answer.TheVariants.{Done}
 use Rattle.cfb.specs.declared.Answer.TheVariants as answers
 
 -- the numbers of an answer that hands a walk's on
-told-walked : (k count start bytes : ℕ) → toldBy (answerFrom (walkedAs k count) start bytes) ≡ told k count start bytes
-unfolding answerFrom walkedAs told
-told-walked k count start bytes = ⊎_elim (λ (z : k ≡ 0). rw (eq-eqb k 0 z)) (λ (n : k ≢ 0). rw (ne_eqb k 0 n)) (same_or k 0)
+told_walked : (k count start bytes : ℕ) → told_by (answer_from (walked_as k count) start bytes) ≡ told k count start bytes
+unfolding answer_from walked_as told
+told_walked k count start bytes = ⊎_elim (λ (z : k ≡ 0). rw (eq-eqb k 0 z)) (λ (n : k ≢ 0). rw (ne_eqb k 0 n)) (same_or k 0)
 
-pub told-refused : (k ids start bytes : ℕ) → k ≢ 0 → k ∷ [] ≡ told k ids start bytes
+pub told_refused : (k ids start bytes : ℕ) → k ≢ 0 → k ∷ [] ≡ told k ids start bytes
 unfolding told
-told-refused k ids start bytes n = rw (ne_eqb k 0 n)
+told_refused k ids start bytes n = rw (ne_eqb k 0 n)
 
-pub told-done : (k ids start bytes : ℕ) → k ≡ 0 → 0 ∷ ids ∷ start ∷ bytes ∷ [] ≡ told k ids start bytes
+pub told_done : (k ids start bytes : ℕ) → k ≡ 0 → 0 ∷ ids ∷ start ∷ bytes ∷ [] ≡ told k ids start bytes
 unfolding told
-told-done k ids start bytes z = rw (eq-eqb k 0 z)
+told_done k ids start bytes z = rw (eq-eqb k 0 z)
 
 -- the answer of a call, by each answer of its walk
-pub answer-listed : (w : Walked) (c start : ℕ) → w ≡ Listed c → Done c start 0 ≡ answerFrom w start 0
-unfolding answerFrom
-answer-listed w c start e = rw e
+pub answer_listed : (w : Walked) (c start : ℕ) → w ≡ Listed c → Done c start 0 ≡ answer_from w start 0
+unfolding answer_from
+answer_listed w c start e = rw e
 
-pub answer-refused : (w : Walked) (k start : ℕ) → w ≡ Refused k → answers.Refused k ≡ answerFrom w start 0
-unfolding answerFrom
-answer-refused w k start e = rw e
+pub answer_refused : (w : Walked) (k start : ℕ) → w ≡ Refused k → answers.Refused k ≡ answer_from w start 0
+unfolding answer_from
+answer_refused w k start e = rw e
 
 -- what a walk's answer tells of the number
-pub walked-refused : (k count j : ℕ) → Refused j ≡ walkedAs k count → (k ≢ 0) × (j ≡ k)
-unfolding walkedAs
-walked-refused k count j e =
+pub walked_refused : (k count j : ℕ) → Refused j ≡ walked_as k count → (k ≢ 0) × (j ≡ k)
+unfolding walked_as
+walked_refused k count j e =
     ⊎_elim
     (λ (z : k ≡ 0). let bad : Refused j ≡ Listed count = rw (eq-eqb k 0 z) at e in let o : ◌≡◌ {A = ℕ} 0 1 = cc in absurd (omega arith))
     (λ (n : k ≢ 0). let same : Refused j ≡ Refused k = rw (ne_eqb k 0 n) at e in (n, cc))
     (same_or k 0)
 
-pub walked-listed : (k count c : ℕ) → Listed c ≡ walkedAs k count → (k ≡ 0) × (c ≡ count)
-unfolding walkedAs
-walked-listed k count c e =
+pub walked_listed : (k count c : ℕ) → Listed c ≡ walked_as k count → (k ≡ 0) × (c ≡ count)
+unfolding walked_as
+walked_listed k count c e =
     ⊎_elim
     (λ (z : k ≡ 0). let same : Listed c ≡ Listed count = rw (eq-eqb k 0 z) at e in (z, cc))
     (λ (n : k ≢ 0). let bad : Listed c ≡ Refused k = rw (ne_eqb k 0 n) at e in let o : ◌≡◌ {A = ℕ} 0 1 = cc in absurd (omega arith))
     (same_or k 0)
 
-left-read : (k : ℕ) (now buf : List ℕ) → k ≢ 0 → buf ≡ choose (eqb k 0) now buf
-left-read k now buf n = rw (ne_eqb k 0 n)
+left_read : (k : ℕ) (now buf : List ℕ) → k ≢ 0 → buf ≡ choose (eqb k 0) now buf
+left_read k now buf n = rw (ne_eqb k 0 n)
 
-pub left-zero : (k : ℕ) (ids xs : List ℕ) → k ≢ 0 → k ≢ 11 → replicate (length ids) 0 ≡ idsLeft k ids xs
-unfolding idsLeft
-left-zero k ids xs n m = rw (ne_eqb k 0 n, ne_eqb k 11 m)
+pub left_zero : (k : ℕ) (ids xs : List ℕ) → k ≢ 0 → k ≢ 11 → replicate (length ids) 0 ≡ ids_left k ids xs
+unfolding ids_left
+left_zero k ids xs n m = rw (ne_eqb k 0 n, ne_eqb k 11 m)
 
-left-front : (k : ℕ) (ids xs : List ℕ) → k ≡ 0 → take (length xs) (idsLeft k ids xs) ≡ xs
-unfolding idsLeft padded
-left-front k ids xs z = rw (eq-eqb k 0 z) (take_at xs _ (length xs) refl)
+left_front : (k : ℕ) (ids xs : List ℕ) → k ≡ 0 → take (length xs) (ids_left k ids xs) ≡ xs
+unfolding ids_left padded
+left_front k ids xs z = rw (eq-eqb k 0 z) (take_at xs _ (length xs) refl)
 
 module _ (s : State) (img : List ℕ) (t : Tables) (ids : List ℕ) (start : ℕ) (w : Walked) (ids' : List ℕ) (l : ChainListed s img t ids start w ids') where
   -- open hands on what was listed
-  pub opens-listed : (a : Answer) (img' : List ℕ) (t' : Tables) → a ≡ answerFrom w start 0 → img' ≡ img → t' ≡ t → ChainOpens s img t ids start (record { answer = a; state = s }) img' t' ids'
-  opens-listed a img' t' e i u = record {
-    answer = ap toldBy e ∙ ap (λ (x : Walked). toldBy (answerFrom x start 0)) l.answer ∙ told-walked _ _ start 0;
+  pub opens_listed : (a : Answer) (img' : List ℕ) (t' : Tables) → a ≡ answer_from w start 0 → img' ≡ img → t' ≡ t → ChainOpens s img t ids start (record { answer = a; state = s }) img' t' ids'
+  opens_listed a img' t' e i u = record {
+    answer = ap told_by e ∙ ap (λ (x : Walked). told_by (answer_from x start 0)) l.answer ∙ told_walked _ _ start 0;
     state = refl;
     image = i;
     tables = u;
@@ -87,95 +87,95 @@ module _ (s : State) (img : List ℕ) (t : Tables) (ids : List ℕ) (start : ℕ
 
   module _ (offset : ℕ) (buf : List ℕ) where
     -- a chain that is refused is not read
-    pub reads-refused : (j : ℕ) (a : Answer) → w ≡ Refused j → a ≡ answerFrom w start 0 → ChainReads s img t ids start offset buf (record { answer = a; state = s }) img t ids' buf
-    unfolding readNo readRows chainNo answerFrom
-    reads-refused j a e f =
-        let told-by = walked-refused _ _ j (sym e ∙ l.answer) in
-        let same : readNo s img t (length ids) start offset ≡ chainNo s img t (length ids) start = append-given (chainRows s img t (length ids) start) _ told-by.0 in
-        let mine : readNo s img t (length ids) start offset ≡ j = same ∙ sym told-by.1 in
-        let some : readNo s img t (length ids) start offset ≢ 0 = λ z. told-by.0 (sym same ∙ z) in
+    pub reads_refused : (j : ℕ) (a : Answer) → w ≡ Refused j → a ≡ answer_from w start 0 → ChainReads s img t ids start offset buf (record { answer = a; state = s }) img t ids' buf
+    unfolding read_no read_rows chain_no answer_from
+    reads_refused j a e f =
+        let told-by = walked_refused _ _ j (sym e ∙ l.answer) in
+        let same : read_no s img t (length ids) start offset ≡ chain_no s img t (length ids) start = append_given (chain_rows s img t (length ids) start) _ told-by.0 in
+        let mine : read_no s img t (length ids) start offset ≡ j = same ∙ sym told-by.1 in
+        let some : read_no s img t (length ids) start offset ≢ 0 = λ z. told-by.0 (sym same ∙ z) in
         record {
-          answer = ap toldBy (f ∙ ap (λ (x : Walked). answerFrom x start 0) e) ∙ ap (λ (k : ℕ). k ∷ []) (sym mine) ∙ told-refused _ _ _ _ some;
+          answer = ap told_by (f ∙ ap (λ (x : Walked). answer_from x start 0) e) ∙ ap (λ (k : ℕ). k ∷ []) (sym mine) ∙ told_refused _ _ _ _ some;
           state = refl;
           image = refl;
           tables = refl;
-          list = l.list ∙ ap (λ (k : ℕ). idsLeft k ids (chainIds s t start)) (sym same);
-          buffer = left-read _ _ buf some;
+          list = l.list ∙ ap (λ (k : ℕ). ids_left k ids (chain_ids s t start)) (sym same);
+          buffer = left_read _ _ buf some;
         }
 
     module _ (c : ℕ) (e : w ≡ Listed c) where
       -- a chain that is listed: the number, how many ids, and the ids themselves
-      pub chain-done : (chainNo s img t (length ids) start ≡ 0) × (c ≡ length (chainIds s t start))
-      chain-done = walked-listed _ _ c (sym e ∙ l.answer)
+      pub chain_done : (chain_no s img t (length ids) start ≡ 0) × (c ≡ length (chain_ids s t start))
+      chain_done = walked_listed _ _ c (sym e ∙ l.answer)
 
-      pub listed-front : take c ids' ≡ chainIds s t start
-      listed-front =
-          ap (take c) l.list ∙ ap (λ (n : ℕ). take n (idsLeft (chainNo s img t (length ids) start) ids (chainIds s t start))) chain-done.1
-          ∙ left-front _ ids (chainIds s t start) chain-done.0
+      pub listed_front : take c ids' ≡ chain_ids s t start
+      listed_front =
+          ap (take c) l.list ∙ ap (λ (n : ℕ). take n (ids_left (chain_no s img t (length ids) start) ids (chain_ids s t start))) chain_done.1
+          ∙ left_front _ ids (chain_ids s t start) chain_done.0
 
-      last : readNo s img t (length ids) start offset ≡ refusal (row 23 (ltb (stateLen s * length (chainIds s t start)) offset) ∷ [])
-      unfolding readNo readRows chainNo chainRows agreedRows walkRows distinct fresh
-      last = append-none (chainRows s img t (length ids) start) _ refl chain-done.0
+      last : read_no s img t (length ids) start offset ≡ refusal (row 23 (ltb (state_len s * length (chain_ids s t start)) offset) ∷ [])
+      unfolding read_no read_rows chain_no chain_rows agreed_rows walk_rows distinct fresh
+      last = append_none (chain_rows s img t (length ids) start) _ refl chain_done.0
 
-      length-is : stateLen s * c ≡ stateLen s * length (chainIds s t start)
-      length-is = ap (λ (n : ℕ). stateLen s * n) chain-done.1
+      length_is : state_len s * c ≡ state_len s * length (chain_ids s t start)
+      length_is = ap (λ (n : ℕ). state_len s * n) chain_done.1
 
       -- the offset lies past the chain
-      pub reads-past : (after : List ℕ) → stateLen s * c < offset → after ≡ replicate (length ids) 0 → ChainReads s img t ids start offset buf (record { answer = answers.Refused 23; state = s }) img t after buf
-      reads-past after h z =
-          let mine : readNo s img t (length ids) start offset ≡ 23 = last ∙ stop 23 _ [] (lt-ltb _ offset (omega (arith, length-is))) in
-          let some : readNo s img t (length ids) start offset ≢ 0 = λ q. absurd (omega (arith, mine, q)) in
+      pub reads_past : (after : List ℕ) → state_len s * c < offset → after ≡ replicate (length ids) 0 → ChainReads s img t ids start offset buf (record { answer = answers.Refused 23; state = s }) img t after buf
+      reads_past after h z =
+          let mine : read_no s img t (length ids) start offset ≡ 23 = last ∙ stop 23 _ [] (lt-ltb _ offset (omega (arith, length_is))) in
+          let some : read_no s img t (length ids) start offset ≢ 0 = λ q. absurd (omega (arith, mine, q)) in
           record {
-            answer = ap (λ (k : ℕ). k ∷ []) (sym mine) ∙ told-refused _ _ _ _ some;
+            answer = ap (λ (k : ℕ). k ∷ []) (sym mine) ∙ told_refused _ _ _ _ some;
             state = refl;
             image = refl;
             tables = refl;
-            list = z ∙ left-zero 23 ids (chainIds s t start) (omega arith) (omega arith) ∙ ap (λ (k : ℕ). idsLeft k ids (chainIds s t start)) (sym mine);
-            buffer = left-read _ _ buf some;
+            list = z ∙ left_zero 23 ids (chain_ids s t start) (omega arith) (omega arith) ∙ ap (λ (k : ℕ). ids_left k ids (chain_ids s t start)) (sym mine);
+            buffer = left_read _ _ buf some;
           }
 
       -- the chain is read
-      pub reads-done : (bytes : ℕ) (buf' : List ℕ) → offset ≤ stateLen s * c → ReadLeft (stateLen s) img (take c ids') offset buf bytes buf'
+      pub reads_done : (bytes : ℕ) (buf' : List ℕ) → offset ≤ state_len s * c → ReadLeft (state_len s) img (take c ids') offset buf bytes buf'
           → ChainReads s img t ids start offset buf (record { answer = Done c start bytes; state = s }) img t ids' buf'
       unfolding refusal
-      reads-done bytes buf' h r =
-          let none : readNo s img t (length ids) start offset ≡ 0 = last ∙ pass 23 _ [] (le-ltb _ offset (omega (arith, length-is))) in
-          let mine : ReadLeft (stateLen s) img (chainIds s t start) offset buf bytes buf' = rw listed-front at r in
+      reads_done bytes buf' h r =
+          let none : read_no s img t (length ids) start offset ≡ 0 = last ∙ pass 23 _ [] (le-ltb _ offset (omega (arith, length_is))) in
+          let mine : ReadLeft (state_len s) img (chain_ids s t start) offset buf bytes buf' = rw listed_front at r in
           record {
-            answer = ap (λ (n : ℕ). 0 ∷ n ∷ start ∷ bytes ∷ []) chain-done.1 ∙ ap (λ (n : ℕ). 0 ∷ length (chainIds s t start) ∷ start ∷ n ∷ []) mine.count ∙ told-done _ _ _ _ none;
+            answer = ap (λ (n : ℕ). 0 ∷ n ∷ start ∷ bytes ∷ []) chain_done.1 ∙ ap (λ (n : ℕ). 0 ∷ length (chain_ids s t start) ∷ start ∷ n ∷ []) mine.count ∙ told_done _ _ _ _ none;
             state = refl;
             image = refl;
             tables = refl;
-            list = l.list ∙ ap (λ (k : ℕ). idsLeft k ids (chainIds s t start)) (chain-done.0 ∙ sym none);
-            buffer = mine.bytes ∙ open-read none;
+            list = l.list ∙ ap (λ (k : ℕ). ids_left k ids (chain_ids s t start)) (chain_done.0 ∙ sym none);
+            buffer = mine.bytes ∙ open_read none;
           }
         where
-          open-read : {k : ℕ} {now : List ℕ} → k ≡ 0 → now ≡ choose (eqb k 0) now buf
-          open-read {k} z = rw (eq-eqb k 0 z)
+          open_read : {k : ℕ} {now : List ℕ} → k ≡ 0 → now ≡ choose (eqb k 0) now buf
+          open_read {k} z = rw (eq-eqb k 0 z)
 
 -- two answers with the same numbers are one
-pub told-apart : (v w : Answer) → toldBy v ≡ toldBy w → v ≡ w
-told-apart (Done a b c) (Done x y z) e =
+pub told_apart : (v w : Answer) → told_by v ≡ told_by w → v ≡ w
+told_apart (Done a b c) (Done x y z) e =
     let p : a ≡ x = ap (λ (xs : List ℕ). get_or xs 1 0) e in
     let q : b ≡ y = ap (λ (xs : List ℕ). get_or xs 2 0) e in
     let u : c ≡ z = ap (λ (xs : List ℕ). get_or xs 3 0) e in
     rw (p, q, u)
-told-apart (Done a b c) (answers.Refused k) e = let z : ◌≡◌ {A = ℕ} 4 1 = ap (λ (xs : List ℕ). length xs) e in absurd (omega arith)
-told-apart (answers.Refused j) (Done x y z) e = let o : ◌≡◌ {A = ℕ} 1 4 = ap (λ (xs : List ℕ). length xs) e in absurd (omega arith)
-told-apart (answers.Refused j) (answers.Refused k) e = let p : j ≡ k = ap (λ (xs : List ℕ). get_or xs 0 0) e in rw p
+told_apart (Done a b c) (answers.Refused k) e = let z : ◌≡◌ {A = ℕ} 4 1 = ap (λ (xs : List ℕ). length xs) e in absurd (omega arith)
+told_apart (answers.Refused j) (Done x y z) e = let o : ◌≡◌ {A = ℕ} 1 4 = ap (λ (xs : List ℕ). length xs) e in absurd (omega arith)
+told_apart (answers.Refused j) (answers.Refused k) e = let p : j ≡ k = ap (λ (xs : List ℕ). get_or xs 0 0) e in rw p
 
 module _ {s : State} {img : List ℕ} {t : Tables} {ids : List ℕ} {start : ℕ} {r q : Called} {img' img'' : List ℕ} {t' t'' : Tables} {ids' ids'' : List ℕ} where
   -- any two results that the contract of open permits are the same
-  pub opens-unique : ChainOpens s img t ids start r img' t' ids' → ChainOpens s img t ids start q img'' t'' ids''
+  pub opens_unique : ChainOpens s img t ids start r img' t' ids' → ChainOpens s img t ids start q img'' t'' ids''
       → (r.answer ≡ q.answer) × (r.state ≡ q.state) × (img' ≡ img'') × (t' ≡ t'') × (ids' ≡ ids'')
-  opens-unique a b =
-      (told-apart r.answer q.answer (a.answer ∙ sym b.answer), a.state ∙ sym b.state, a.image ∙ sym b.image, a.tables ∙ sym b.tables, a.list ∙ sym b.list)
+  opens_unique a b =
+      (told_apart r.answer q.answer (a.answer ∙ sym b.answer), a.state ∙ sym b.state, a.image ∙ sym b.image, a.tables ∙ sym b.tables, a.list ∙ sym b.list)
 
   -- and so are those of read
-  pub reads-unique : {offset : ℕ} {buf buf' buf'' : List ℕ} → ChainReads s img t ids start offset buf r img' t' ids' buf' → ChainReads s img t ids start offset buf q img'' t'' ids'' buf''
+  pub reads_unique : {offset : ℕ} {buf buf' buf'' : List ℕ} → ChainReads s img t ids start offset buf r img' t' ids' buf' → ChainReads s img t ids start offset buf q img'' t'' ids'' buf''
       → (r.answer ≡ q.answer) × (r.state ≡ q.state) × (img' ≡ img'') × (t' ≡ t'') × (ids' ≡ ids'') × (buf' ≡ buf'')
-  reads-unique a b = (
-    told-apart r.answer q.answer (a.answer ∙ sym b.answer),
+  reads_unique a b = (
+    told_apart r.answer q.answer (a.answer ∙ sym b.answer),
     a.state ∙ sym b.state,
     a.image ∙ sym b.image,
     a.tables ∙ sym b.tables,

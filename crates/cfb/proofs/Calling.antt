@@ -11,8 +11,8 @@ use lib.Seq.{take_at}
 use Rattle.lists.specs.Lists.{choose}
 use Rattle.lists.specs.Rows.{refusal}
 use Rattle.lists.proofs.Rows.{stop, pass}
-use Rattle.consts.specs.Consts.{maxRegular}
-use Rattle.fat.specs.Lists.{roomOf}
+use Rattle.consts.specs.Consts.{max_regular}
+use Rattle.fat.specs.Lists.{room_of}
 use Rattle.alloc.specs.Opening.{Tables, shortest, padded}
 use Rattle.agree.specs.Agree.{agreement}
 use Rattle.walk.specs.Steps.{Once}
@@ -21,135 +21,135 @@ use Rattle.walk.specs.Walked.{answer_of, WalkLeft}
 use Rattle.walk.specs.declared.Walked.{Walked}
 use Rattle.walk.specs.declared.Walked.TheVariants.{Listed, Refused}
 use Rattle.walk.proofs.Walking.{Fate, past, ended, broken, back, spent, fate}
-use Rattle.walk.proofs.Exactly.{never-spent}
-use Rattle.cfb.specs.Calls.{outcomeNo, outcomeIds, stateLen, walked, agreedRows, walkRows, chainRows, chainNo, chainIds, idsLeft}
-use Rattle.cfb.specs.Listed.{cleared, walkedAs, ChainListed}
+use Rattle.walk.proofs.Exactly.{never_spent}
+use Rattle.cfb.specs.Calls.{outcome_no, outcome_ids, state_len, walked, agreed_rows, walk_rows, chain_rows, chain_no, chain_ids, ids_left}
+use Rattle.cfb.specs.Listed.{cleared, walked_as, ChainListed}
 use Rattle.cfb.specs.declared.State.{State}
 
 -- what a walk that is not spent can come to
 pub data Number : ℕ → Type 0 where
-  is-0 : Number 0
-  is-20 : Number 20
-  is-21 : Number 21
-  is-22 : Number 22
+  is_0 : Number 0
+  is_20 : Number 20
+  is_21 : Number 21
+  is_22 : Number 22
 
-pub walk-number : (fat : List ℕ) (start : ℕ) → length fat ≤ maxRegular → Once fat → Number (outcomeNo (walk_of fat start))
-unfolding outcomeNo
-walk-number fat start few once = at (walk_of fat start) refl (fate fat start few)
+pub walk_number : (fat : List ℕ) (start : ℕ) → length fat ≤ max_regular → Once fat → Number (outcome_no (walk_of fat start))
+unfolding outcome_no
+walk_number fat start few once = at (walk_of fat start) refl (fate fat start few)
   where
-    at : (w : Outcome) → walk_of fat start ≡ w → Fate fat start w → Number (outcomeNo w)
-    at _ e (past d h) = is-20
-    at _ e (ended k p q) = is-0
-    at _ e (broken b) = is-21
-    at _ e (back k l g q) = is-22
-    at _ e (spent g) = absurd (never-spent fat start few once e)
+    at : (w : Outcome) → walk_of fat start ≡ w → Fate fat start w → Number (outcome_no w)
+    at _ e (past d h) = is_20
+    at _ e (ended k p q) = is_0
+    at _ e (broken b) = is_21
+    at _ e (back k l g q) = is_22
+    at _ e (spent g) = absurd (never_spent fat start few once e)
 
-not-eleven : {n : ℕ} → Number n → n ≡ 11 → ⊥
-not-eleven is-0 e = omega arith
-not-eleven is-20 e = omega arith
-not-eleven is-21 e = omega arith
-not-eleven is-22 e = omega arith
+not_eleven : {n : ℕ} → Number n → n ≡ 11 → ⊥
+not_eleven is_0 e = omega arith
+not_eleven is_20 e = omega arith
+not_eleven is_21 e = omega arith
+not_eleven is_22 e = omega arith
 
 -- the rows 20 to 22 give that number
-walk_rows : (w : Outcome) → Number (outcomeNo w) → refusal (walkRows w) ≡ outcomeNo w
-unfolding walkRows refusal
-walk_rows w k = at (outcomeNo w) k
+walk_rows_lem : (w : Outcome) → Number (outcome_no w) → refusal (walk_rows w) ≡ outcome_no w
+unfolding walk_rows refusal
+walk_rows_lem w k = at (outcome_no w) k
   where
     at : (n : ℕ) → Number n → choose (eqb n 20) 20 (choose (eqb n 21) 21 (choose (eqb n 22) 22 0)) ≡ n
-    at _ is-0 = refl
-    at _ is-20 = refl
-    at _ is-21 = refl
-    at _ is-22 = refl
+    at _ is_0 = refl
+    at _ is_20 = refl
+    at _ is_21 = refl
+    at _ is_22 = refl
 
 -- the row of the lengths, by what was found out
-pub room-short : {a b a' b' : ℕ} → a ≡ a' → b ≡ b' → a < b → ltb a' b' ≡ true
-room-short {a} {b} {a'} {b'} p q h = lt-ltb a' b' (omega arith)
+pub room_short : {a b a' b' : ℕ} → a ≡ a' → b ≡ b' → a < b → ltb a' b' ≡ true
+room_short {a} {b} {a'} {b'} p q h = lt-ltb a' b' (omega arith)
 
-pub room-long : {a b a' b' : ℕ} → a ≡ a' → b ≡ b' → b ≤ a → ltb a' b' ≡ false
-room-long {a} {b} {a'} {b'} p q h = le-ltb a' b' (omega arith)
+pub room_long : {a b a' b' : ℕ} → a ≡ a' → b ≡ b' → b ≤ a → ltb a' b' ≡ false
+room_long {a} {b} {a'} {b'} p q h = le-ltb a' b' (omega arith)
 
 -- a list that has the room has a place for each sector
-pub room-enough : (short : ℕ) {a n r ids now : ℕ} → a ≡ n → n ≤ r → ltb (min short ids) r ≡ false → now ≡ ids → a ≤ now
-room-enough short {a} {n} {r} {ids} p h l k = let low : r ≤ min short ids = ltb-false (min short ids) r l in omega arith
+pub room_enough : (short : ℕ) {a n r ids now : ℕ} → a ≡ n → n ≤ r → ltb (min short ids) r ≡ false → now ≡ ids → a ≤ now
+room_enough short {a} {n} {r} {ids} p h l k = let low : r ≤ min short ids = ltb-false (min short ids) r l in omega arith
 
 -- the id list after each end
-left-listed : (ids xs : List ℕ) → padded xs (length ids) ≡ idsLeft 0 ids xs
-unfolding idsLeft
-left-listed ids xs = refl
+left_listed : (ids xs : List ℕ) → padded xs (length ids) ≡ ids_left 0 ids xs
+unfolding ids_left
+left_listed ids xs = refl
 
-left_alone : (ids xs : List ℕ) → ids ≡ idsLeft 11 ids xs
-unfolding idsLeft
+left_alone : (ids xs : List ℕ) → ids ≡ ids_left 11 ids xs
+unfolding ids_left
 left_alone ids xs = refl
 
-left-zero : (k : ℕ) (ids xs : List ℕ) → (k ≡ 0 → ⊥) → (k ≡ 11 → ⊥) → replicate (length ids) 0 ≡ idsLeft k ids xs
-unfolding idsLeft
-left-zero k ids xs n m = rw (ne_eqb k 0 n, ne_eqb k 11 m)
+left_zero : (k : ℕ) (ids xs : List ℕ) → (k ≡ 0 → ⊥) → (k ≡ 11 → ⊥) → replicate (length ids) 0 ≡ ids_left k ids xs
+unfolding ids_left
+left_zero k ids xs n m = rw (ne_eqb k 0 n, ne_eqb k 11 m)
 
-answer-refused : (k count : ℕ) → (k ≡ 0 → ⊥) → Refused k ≡ walkedAs k count
-unfolding walkedAs
-answer-refused k count n = rw (ne_eqb k 0 n)
+answer_refused : (k count : ℕ) → (k ≡ 0 → ⊥) → Refused k ≡ walked_as k count
+unfolding walked_as
+answer_refused k count n = rw (ne_eqb k 0 n)
 
-answer-listed : (k count : ℕ) → k ≡ 0 → Listed count ≡ walkedAs k count
-unfolding walkedAs
-answer-listed k count z = rw (eq-eqb k 0 z)
+answer_listed : (k count : ℕ) → k ≡ 0 → Listed count ≡ walked_as k count
+unfolding walked_as
+answer_listed k count z = rw (eq-eqb k 0 z)
 
 module _ (s : State) (img : List ℕ) (t : Tables) (ids : List ℕ) (start : ℕ) where
-  refused-so : (k : ℕ) (after : List ℕ) → chainNo s img t (length ids) start ≡ k → (k ≡ 0 → ⊥) → after ≡ idsLeft k ids (chainIds s t start) → ChainListed s img t ids start (Refused k) after
-  refused-so k after e n l = record {
-    answer = answer-refused k _ n ∙ ap (λ (x : ℕ). walkedAs x (length (chainIds s t start))) (sym e);
-    list = l ∙ ap (λ (x : ℕ). idsLeft x ids (chainIds s t start)) (sym e);
+  refused_so : (k : ℕ) (after : List ℕ) → chain_no s img t (length ids) start ≡ k → (k ≡ 0 → ⊥) → after ≡ ids_left k ids (chain_ids s t start) → ChainListed s img t ids start (Refused k) after
+  refused_so k after e n l = record {
+    answer = answer_refused k _ n ∙ ap (λ (x : ℕ). walked_as x (length (chain_ids s t start))) (sym e);
+    list = l ∙ ap (λ (x : ℕ). ids_left x ids (chain_ids s t start)) (sym e);
   }
 
   -- a table or the id list is too short
-  pub listed-short : ltb (min (shortest t) (length ids)) (roomOf (stateLen s) (length img)) ≡ true → ChainListed s img t ids start (Refused 11) ids
-  unfolding chainNo chainRows agreedRows
-  listed-short h = refused-so 11 ids (stop 11 _ _ h) (omega arith) (left_alone ids _)
+  pub listed_short : ltb (min (shortest t) (length ids)) (room_of (state_len s) (length img)) ≡ true → ChainListed s img t ids start (Refused 11) ids
+  unfolding chain_no chain_rows agreed_rows
+  listed_short h = refused_so 11 ids (stop 11 _ _ h) (omega arith) (left_alone ids _)
 
-  module _ (long : ltb (min (shortest t) (length ids)) (roomOf (stateLen s) (length img)) ≡ false) where
+  module _ (long : ltb (min (shortest t) (length ids)) (room_of (state_len s) (length img)) ≡ false) where
     -- state and tables are not what an opening gives
-    pub listed-apart : (after : List ℕ) → agreement s.mode img s.used s.sectors s.free s.header t ≡ false → after ≡ replicate (length ids) 0
+    pub listed_apart : (after : List ℕ) → agreement s.mode img s.used s.sectors s.free s.header t ≡ false → after ≡ replicate (length ids) 0
         → ChainListed s img t ids start (Refused 19) after
-    unfolding chainNo chainRows agreedRows
-    listed-apart after f e =
-        refused-so 19 after (pass 11 _ _ long ∙ stop 19 _ _ (ap not f)) (omega arith) (e ∙ left-zero 19 ids _ (omega arith) (omega arith))
+    unfolding chain_no chain_rows agreed_rows
+    listed_apart after f e =
+        refused_so 19 after (pass 11 _ _ long ∙ stop 19 _ _ (ap not f)) (omega arith) (e ∙ left_zero 19 ids _ (omega arith) (omega arith))
 
     module _ (same : agreement s.mode img s.used s.sectors s.free s.header t ≡ true)
-        (few : length (take s.sectors t.fat) ≤ maxRegular) (once : Once (take s.sectors t.fat)) where
-      number : chainNo s img t (length ids) start ≡ outcomeNo (walked s t start)
-      unfolding chainNo chainRows agreedRows walked
-      number = pass 11 _ _ long ∙ pass 19 _ _ (ap not same) ∙ walk_rows (walked s t start) (walk-number _ start few once)
+        (few : length (take s.sectors t.fat) ≤ max_regular) (once : Once (take s.sectors t.fat)) where
+      number : chain_no s img t (length ids) start ≡ outcome_no (walked s t start)
+      unfolding chain_no chain_rows agreed_rows walked
+      number = pass 11 _ _ long ∙ pass 19 _ _ (ap not same) ∙ walk_rows_lem (walked s t start) (walk_number _ start few once)
 
       -- the walk, with zeros past its ids
       -- an id list that is cleared, by the walk's answer
-      cleared-listed : (r : Walked) (mid : List ℕ) (count : ℕ) → r ≡ Listed count → cleared r mid ≡ padded (take count mid) (length mid)
+      cleared_listed : (r : Walked) (mid : List ℕ) (count : ℕ) → r ≡ Listed count → cleared r mid ≡ padded (take count mid) (length mid)
       unfolding cleared
-      cleared-listed r mid count e = rw e
+      cleared_listed r mid count e = rw e
 
-      cleared-refused : (r : Walked) (mid : List ℕ) (k : ℕ) → r ≡ Refused k → cleared r mid ≡ replicate (length mid) 0
+      cleared_refused : (r : Walked) (mid : List ℕ) (k : ℕ) → r ≡ Refused k → cleared r mid ≡ replicate (length mid) 0
       unfolding cleared padded
-      cleared-refused r mid k e =
+      cleared_refused r mid k e =
           let all : length mid - 0 ≡ length mid = omega arith in
           ap (λ (x : Walked). cleared x mid) e ∙ ap (λ (n : ℕ). replicate n 0) all
 
-      pub listed-walked : (before mid after : List ℕ) (r : Walked) → length before ≡ length ids → WalkLeft (take s.sectors t.fat) start before r mid → length mid ≡ length before
+      pub listed_walked : (before mid after : List ℕ) (r : Walked) → length before ≡ length ids → WalkLeft (take s.sectors t.fat) start before r mid → length mid ≡ length before
           → after ≡ cleared r mid → ChainListed s img t ids start r after
-      unfolding chainIds outcomeIds outcomeNo walked answer_of
-      listed-walked before mid after r l w lm e = at (walked s t start) refl (walk-number _ start few once)
+      unfolding chain_ids outcome_ids outcome_no walked answer_of
+      listed_walked before mid after r l w lm e = at (walked s t start) refl (walk_number _ start few once)
         where
-          at : (o : Outcome) → walk_of (take s.sectors t.fat) start ≡ o → Number (outcomeNo (walk_of (take s.sectors t.fat) start)) → ChainListed s img t ids start r after
+          at : (o : Outcome) → walk_of (take s.sectors t.fat) start ≡ o → Number (outcome_no (walk_of (take s.sectors t.fat) start)) → ChainListed s img t ids start r after
           at (lists xs) q k =
-              let z : chainNo s img t (length ids) start ≡ 0 = number ∙ ap outcomeNo q in
-              let mine : chainIds s t start ≡ xs = ap outcomeIds q in
+              let z : chain_no s img t (length ids) start ≡ 0 = number ∙ ap outcome_no q in
+              let mine : chain_ids s t start ≡ xs = ap outcome_ids q in
               let front : take (length xs) mid ≡ xs = ap (take (length xs)) (w.front xs q) ∙ take_at xs _ (length xs) refl in
               record {
-                answer = w.answer ∙ ap answer_of q ∙ ap (λ (x : List ℕ). Listed (length x)) (sym mine) ∙ answer-listed _ (length (chainIds s t start)) z;
-                list = e ∙ cleared-listed r mid (length xs) (w.answer ∙ ap answer_of q) ∙ ap (λ (x : List ℕ). padded x (length mid)) front ∙ ap (padded xs) (lm ∙ l) ∙ left-listed ids xs
-                    ∙ ap (idsLeft 0 ids) (sym mine) ∙ ap (λ (n : ℕ). idsLeft n ids (chainIds s t start)) (sym z);
+                answer = w.answer ∙ ap answer_of q ∙ ap (λ (x : List ℕ). Listed (length x)) (sym mine) ∙ answer_listed _ (length (chain_ids s t start)) z;
+                list = e ∙ cleared_listed r mid (length xs) (w.answer ∙ ap answer_of q) ∙ ap (λ (x : List ℕ). padded x (length mid)) front ∙ ap (padded xs) (lm ∙ l) ∙ left_listed ids xs
+                    ∙ ap (ids_left 0 ids) (sym mine) ∙ ap (λ (n : ℕ). ids_left n ids (chain_ids s t start)) (sym z);
               }
           at (refuses x) q k =
-              let e0 : chainNo s img t (length ids) start ≡ x = number ∙ ap outcomeNo q in
-              let given : Number x = rw (ap outcomeNo q) at k in
-              let some : x ≡ 0 → ⊥ = λ z. never-spent _ start few once (q ∙ ap refuses z) in
-              let zeros : after ≡ replicate (length ids) 0 = e ∙ cleared-refused r mid x (w.answer ∙ ap answer_of q) ∙ ap (λ (n : ℕ). replicate n 0) (lm ∙ l) in
-              let so : ChainListed s img t ids start (Refused x) after = refused-so x after e0 some (zeros ∙ left-zero x ids _ some (not-eleven given)) in
+              let e0 : chain_no s img t (length ids) start ≡ x = number ∙ ap outcome_no q in
+              let given : Number x = rw (ap outcome_no q) at k in
+              let some : x ≡ 0 → ⊥ = λ z. never_spent _ start few once (q ∙ ap refuses z) in
+              let zeros : after ≡ replicate (length ids) 0 = e ∙ cleared_refused r mid x (w.answer ∙ ap answer_of q) ∙ ap (λ (n : ℕ). replicate n 0) (lm ∙ l) in
+              let so : ChainListed s img t ids start (Refused x) after = refused_so x after e0 some (zeros ∙ left_zero x ids _ some (not_eleven given)) in
               rw (w.answer ∙ ap answer_of q) so

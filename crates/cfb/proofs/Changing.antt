@@ -10,27 +10,27 @@ use borrow.Author.Tests.{eq-eqb, ne_eqb, ltb-false}
 use lib.Dec.{eqb}
 use lib.ListN.{length, replicate}
 use Rattle.lists.specs.Lists.{choose}
-use Rattle.fat.specs.Lists.{roomOf}
+use Rattle.fat.specs.Lists.{room_of}
 use Rattle.alloc.specs.Opening.{Tables, padded}
 use Rattle.walk.specs.declared.Walked.{Walked}
 use Rattle.walk.specs.declared.Walked.TheVariants.{Listed, Refused}
 use Rattle.hand.specs.Hand.{Chain}
 use Rattle.hand.specs.Fits.{FitsChain}
-use Rattle.moves.proofs.Changing.{chain-room}
-use Rattle.moves.specs.Change.{seekOf, editMore, edited, FitsEdit}
+use Rattle.moves.proofs.Changing.{chain_room}
+use Rattle.moves.specs.Change.{seek_of, edit_more, edited, FitsEdit}
 use Rattle.moves.specs.declared.change.Changed.{Changed}
 use Rattle.moves.specs.declared.change.Edit.{Edit}
 use Rattle.moves.specs.declared.change.Edit.TheVariants.{Write, Resize}
-use Rattle.cfb.specs.Calls.{stateLen, chainIds, idsLeft, toldBy}
-use Rattle.cfb.specs.Changes.{noRoom, resizeRows, resizeNo, writeRows, writeNo, editNo, chainFrom, stateFrom, tablesIn, start_in, Changes, Judged, doneWith}
-use Rattle.cfb.specs.Listed.{answerFrom}
+use Rattle.cfb.specs.Calls.{state_len, chain_ids, ids_left, told_by}
+use Rattle.cfb.specs.Changes.{no_room, resize_rows, resize_no, write_rows, write_no, edit_no, chain_from, state_from, tables_in, start_in, Changes, Judged, done_with}
+use Rattle.cfb.specs.Listed.{answer_from}
 use Rattle.cfb.specs.declared.State.{State}
 use Rattle.cfb.specs.declared.Called.{Called}
 use Rattle.cfb.specs.declared.Answer.{Answer}
-use Rattle.cfb.proofs.Answering.{told-refused, told-done, told-apart, walked-refused, walked-listed}
-use Rattle.cfb.proofs.Fitted.{handIn}
-use Rattle.cfb.proofs.Judging.{row-passed, rows-passed}
-use Rattle.cfb.proofs.Ready.{ready-fits, ready-apart}
+use Rattle.cfb.proofs.Answering.{told_refused, told_done, told_apart, walked_refused, walked_listed}
+use Rattle.cfb.proofs.Fitted.{hand_in}
+use Rattle.cfb.proofs.Judging.{row_passed, rows_passed}
+use Rattle.cfb.proofs.Ready.{ready_fits, ready_apart}
 
 -- what stands beside each end
 left_as : {A : Type 0} (k : ℕ) (a b : A) → k ≢ 0 → b ≡ choose (eqb k 0) a b
@@ -40,99 +40,99 @@ made_as : {A : Type 0} (k : ℕ) (a b : A) → k ≡ 0 → a ≡ choose (eqb k 0
 made_as k a b z = ap (λ (t : Bool). choose t a b) (sym (eq-eqb k 0 z))
 
 -- a change that was made
-pub changes-made : (s : State) (img : List ℕ) (t : Tables) (ids : List ℕ) (k : ℕ) (after : Chain) (bytes : ℕ) (r : Called) (img' : List ℕ) (t' : Tables) (ids' : List ℕ) (c : Changed)
-    → k ≡ 0 → record { hand = handIn img' c.sectors c.free t'; ids = ids'; count = c.ids } ≡ after → r ≡ doneWith s img' ids' c bytes → Changes s img t ids k after bytes r img' t' ids'
-unfolding doneWith stateFrom tablesIn
-changes-made s img t ids k after bytes r img' t' ids' c z e q = record {
-  answer = ap (λ (x : Called). toldBy x.answer) q ∙ ap (λ (x : Chain). 0 ∷ x.count ∷ start_in x.ids x.count ∷ bytes ∷ []) e ∙ told-done k _ _ _ z;
-  state = ap (λ (x : Called). x.state) q ∙ ap (stateFrom s) e ∙ made_as k _ s z;
+pub changes_made : (s : State) (img : List ℕ) (t : Tables) (ids : List ℕ) (k : ℕ) (after : Chain) (bytes : ℕ) (r : Called) (img' : List ℕ) (t' : Tables) (ids' : List ℕ) (c : Changed)
+    → k ≡ 0 → record { hand = hand_in img' c.sectors c.free t'; ids = ids'; count = c.ids } ≡ after → r ≡ done_with s img' ids' c bytes → Changes s img t ids k after bytes r img' t' ids'
+unfolding done_with state_from tables_in
+changes_made s img t ids k after bytes r img' t' ids' c z e q = record {
+  answer = ap (λ (x : Called). told_by x.answer) q ∙ ap (λ (x : Chain). 0 ∷ x.count ∷ start_in x.ids x.count ∷ bytes ∷ []) e ∙ told_done k _ _ _ z;
+  state = ap (λ (x : Called). x.state) q ∙ ap (state_from s) e ∙ made_as k _ s z;
   image = ap (λ (x : Chain). x.hand.disk.image) e ∙ made_as k _ img z;
-  tables = ap tablesIn e ∙ made_as k _ t z;
+  tables = ap tables_in e ∙ made_as k _ t z;
   list = ap (λ (x : Chain). x.ids) e ∙ made_as k _ _ z;
 }
 
-left-refused : (k : ℕ) (ids xs : List ℕ) → k ≢ 0 → idsLeft k ids xs ≡ choose (eqb k 11) ids (replicate (length ids) 0)
-unfolding idsLeft
-left-refused k ids xs n = sym (left_as k (padded xs (length ids)) _ n)
+left_refused : (k : ℕ) (ids xs : List ℕ) → k ≢ 0 → ids_left k ids xs ≡ choose (eqb k 11) ids (replicate (length ids) 0)
+unfolding ids_left
+left_refused k ids xs n = sym (left_as k (padded xs (length ids)) _ n)
 
-left-made : (k : ℕ) (ids xs : List ℕ) → k ≡ 0 → idsLeft k ids xs ≡ padded xs (length ids)
-unfolding idsLeft
-left-made k ids xs z = sym (made_as k (padded xs (length ids)) _ z)
+left_made : (k : ℕ) (ids xs : List ℕ) → k ≡ 0 → ids_left k ids xs ≡ padded xs (length ids)
+unfolding ids_left
+left_made k ids xs z = sym (made_as k (padded xs (length ids)) _ z)
 
 module _ (k : ℕ) (ids chain : List ℕ) (w : Walked) (ids' : List ℕ) (l : Judged k ids chain w ids') where
   -- a change that is refused
-  pub changes-refused : (s : State) (img : List ℕ) (t : Tables) (start : ℕ) (after : Chain) (bytes j : ℕ) (a : Answer) → w ≡ Refused j → a ≡ answerFrom w start 0
+  pub changes_refused : (s : State) (img : List ℕ) (t : Tables) (start : ℕ) (after : Chain) (bytes j : ℕ) (a : Answer) → w ≡ Refused j → a ≡ answer_from w start 0
       → Changes s img t ids k after bytes (record { answer = a; state = s }) img t ids'
-  unfolding answerFrom
-  changes-refused s img t start after bytes j a e f =
-      let told-by = walked-refused _ _ j (sym e ∙ l.answer) in
+  unfolding answer_from
+  changes_refused s img t start after bytes j a e f =
+      let told-by = walked_refused _ _ j (sym e ∙ l.answer) in
       record {
-        answer = ap toldBy (f ∙ ap (λ (x : Walked). answerFrom x start 0) e) ∙ ap (λ (n : ℕ). n ∷ []) told-by.1 ∙ told-refused _ _ _ _ told-by.0;
+        answer = ap told_by (f ∙ ap (λ (x : Walked). answer_from x start 0) e) ∙ ap (λ (n : ℕ). n ∷ []) told-by.1 ∙ told_refused _ _ _ _ told-by.0;
         state = left_as _ _ s told-by.0;
         image = left_as _ _ img told-by.0;
         tables = left_as _ _ t told-by.0;
-        list = l.list ∙ left-refused k ids chain told-by.0 ∙ left_as _ _ _ told-by.0;
+        list = l.list ∙ left_refused k ids chain told-by.0 ∙ left_as _ _ _ told-by.0;
       }
 
   -- one that is not
-  pub judged-zero : (c : ℕ) → w ≡ Listed c → k ≡ 0
-  judged-zero c e = (walked-listed _ _ c (sym e ∙ l.answer)).0
+  pub judged_zero : (c : ℕ) → w ≡ Listed c → k ≡ 0
+  judged_zero c e = (walked_listed _ _ c (sym e ∙ l.answer)).0
 
 -- the chain that was listed is the one in hand
-pub judged-chain : (s : State) (img : List ℕ) (t : Tables) (ids : List ℕ) (start k : ℕ) (w : Walked) (ids' : List ℕ) → Judged k ids (chainIds s t start) w ids' → (c : ℕ) → w ≡ Listed c
-    → record { hand = handIn img s.sectors s.free t; ids = ids'; count = c } ≡ chainFrom s img t (length ids) start
-unfolding chainFrom
-judged-chain s img t ids start k w ids' l c e =
-    let told-by = walked-listed _ _ c (sym e ∙ l.answer) in
-    let mine : ids' ≡ padded (chainIds s t start) (length ids) = l.list ∙ left-made k ids (chainIds s t start) told-by.0 in
+pub judged_chain : (s : State) (img : List ℕ) (t : Tables) (ids : List ℕ) (start k : ℕ) (w : Walked) (ids' : List ℕ) → Judged k ids (chain_ids s t start) w ids' → (c : ℕ) → w ≡ Listed c
+    → record { hand = hand_in img s.sectors s.free t; ids = ids'; count = c } ≡ chain_from s img t (length ids) start
+unfolding chain_from
+judged_chain s img t ids start k w ids' l c e =
+    let told-by = walked_listed _ _ c (sym e ∙ l.answer) in
+    let mine : ids' ≡ padded (chain_ids s t start) (length ids) = l.list ∙ left_made k ids (chain_ids s t start) told-by.0 in
     rw (mine, told-by.1)
 
 -- an edit that nothing stands against can be made
-pub edit-ready : (s : State) (img : List ℕ) (t : Tables) (room start : ℕ) (edit : Edit) (bytes : ℕ) → editNo s img t room start edit bytes ≡ 0
-    → FitsEdit (stateLen s) (roomOf (stateLen s) (length img)) edit bytes (chainFrom s img t room start)
-unfolding chainFrom noRoom seekOf editMore resizeNo resizeRows writeNo writeRows
-edit-ready s img t room start (Write offset) bytes z =
-    let passed = rows-passed s img t room start _ z in
-    let within = row-passed 23 _ _ (λ q. omega arith) passed.1 in
+pub edit_ready : (s : State) (img : List ℕ) (t : Tables) (room start : ℕ) (edit : Edit) (bytes : ℕ) → edit_no s img t room start edit bytes ≡ 0
+    → FitsEdit (state_len s) (room_of (state_len s) (length img)) edit bytes (chain_from s img t room start)
+unfolding chain_from no_room seek_of edit_more resize_no resize_rows write_no write_rows
+edit_ready s img t room start (Write offset) bytes z =
+    let passed = rows_passed s img t room start _ z in
+    let within = row_passed 23 _ _ (λ q. omega arith) passed.1 in
     record {
-      fits = record { fits = ready-fits s img t room start passed.0; room = ltb-false _ _ (row-passed 24 _ _ (λ q. omega arith) within.1).0 };
-      apart = ready-apart s img t room start passed.0;
+      fits = record { fits = ready_fits s img t room start passed.0; room = ltb-false _ _ (row_passed 24 _ _ (λ q. omega arith) within.1).0 };
+      apart = ready_apart s img t room start passed.0;
       seeks = ltb-false _ _ within.0;
     }
-edit-ready s img t room start (Resize len) bytes z =
-    let passed = rows-passed s img t room start _ z in
+edit_ready s img t room start (Resize len) bytes z =
+    let passed = rows_passed s img t room start _ z in
     record {
-      fits = record { fits = ready-fits s img t room start passed.0; room = ltb-false _ _ (row-passed 24 _ _ (λ q. omega arith) passed.1).0 };
-      apart = ready-apart s img t room start passed.0;
+      fits = record { fits = ready_fits s img t room start passed.0; room = ltb-false _ _ (row_passed 24 _ _ (λ q. omega arith) passed.1).0 };
+      apart = ready_apart s img t room start passed.0;
       seeks = omega arith;
     }
 
 -- what is said by the length of a state's sectors, and of the chain in hand, is said by an equal length and of an equal chain
-pub edit-own : (img : List ℕ) (edit : Edit) (bytes : ℕ) {S S' : ℕ} {c c' : Chain} → S ≡ S' → c ≡ c' → FitsEdit S' (roomOf S' (length img)) edit bytes c' → FitsEdit S (roomOf S (length img)) edit bytes c
-edit-own img edit bytes p q f = rw (p, q) f
+pub edit_own : (img : List ℕ) (edit : Edit) (bytes : ℕ) {S S' : ℕ} {c c' : Chain} → S ≡ S' → c ≡ c' → FitsEdit S' (room_of S' (length img)) edit bytes c' → FitsEdit S (room_of S (length img)) edit bytes c
+edit_own img edit bytes p q f = rw (p, q) f
 
-pub edited-own : (edit : Edit) (buf : List ℕ) {S S' : ℕ} {c c' : Chain} → S ≡ S' → c ≡ c' → edited S c edit buf ≡ edited S' c' edit buf
-edited-own edit buf p q = rw (p, q)
+pub edited_own : (edit : Edit) (buf : List ℕ) {S S' : ℕ} {c c' : Chain} → S ≡ S' → c ≡ c' → edited S c edit buf ≡ edited S' c' edit buf
+edited_own edit buf p q = rw (p, q)
 
 -- a chain in hand that fits: its image holds its header and its sectors, and its list its ids
-fits-lies : (S R : ℕ) (c : Chain) → FitsChain S R c
+fits_lies : (S R : ℕ) (c : Chain) → FitsChain S R c
     → (512 ≤ length c.hand.disk.image) × ((c.hand.disk.sectors + 1) * S ≤ length c.hand.disk.image) × (c.count ≤ length c.ids)
-fits-lies S R c f =
+fits_lies S R c f =
     let d = f.fits.disk in
     let less : (c.hand.disk.sectors + 1) * S ≤ (R + 1) * S = mul-le-mul_right S (omega (arith, d.inside)) in
-    let least : S ≤ (R + 1) * S = omega (arith, scaled-left R S) in
-    (omega (arith, d.header, d.holds.fits), omega (arith, d.holds.fits), chain-room S R c f)
+    let least : S ≤ (R + 1) * S = omega (arith, scaled_left R S) in
+    (omega (arith, d.header, d.holds.fits), omega (arith, d.holds.fits), chain_room S R c f)
   where
-    scaled-left : (r x : ℕ) → x ≤ (r + 1) * x
-    scaled-left r x = omega (arith, add-mul r 1 x, one-mul x)
+    scaled_left : (r x : ℕ) → x ≤ (r + 1) * x
+    scaled_left r x = omega (arith, add-mul r 1 x, one-mul x)
 
-pub made-lies : (S R : ℕ) (c after : Chain) → c ≡ after → FitsChain S R after
+pub made_lies : (S R : ℕ) (c after : Chain) → c ≡ after → FitsChain S R after
     → (512 ≤ length c.hand.disk.image) × ((c.hand.disk.sectors + 1) * S ≤ length c.hand.disk.image) × (c.count ≤ length c.ids)
-made-lies S R c after e f = fits-lies S R c (rw e f)
+made_lies S R c after e f = fits_lies S R c (rw e f)
 
 -- any two results that the contract of a change permits are the same
-pub changes-unique : {s : State} {img : List ℕ} {t : Tables} {ids : List ℕ} {k : ℕ} {after : Chain} {bytes : ℕ} {r q : Called} {img' img'' : List ℕ} {t' t'' : Tables} {ids' ids'' : List ℕ}
+pub changes_unique : {s : State} {img : List ℕ} {t : Tables} {ids : List ℕ} {k : ℕ} {after : Chain} {bytes : ℕ} {r q : Called} {img' img'' : List ℕ} {t' t'' : Tables} {ids' ids'' : List ℕ}
     → Changes s img t ids k after bytes r img' t' ids' → Changes s img t ids k after bytes q img'' t'' ids''
     → (r.answer ≡ q.answer) × (r.state ≡ q.state) × (img' ≡ img'') × (t' ≡ t'') × (ids' ≡ ids'')
-changes-unique {r = r} {q} a b =
-    (told-apart r.answer q.answer (a.answer ∙ sym b.answer), a.state ∙ sym b.state, a.image ∙ sym b.image, a.tables ∙ sym b.tables, a.list ∙ sym b.list)
+changes_unique {r = r} {q} a b =
+    (told_apart r.answer q.answer (a.answer ∙ sym b.answer), a.state ∙ sym b.state, a.image ∙ sym b.image, a.tables ∙ sym b.tables, a.list ∙ sym b.list)

@@ -9,10 +9,10 @@ use Rattle.walk.specs.declared.Walked.TheVariants.{Listed, Refused}
 use Rattle.cfb.specs.Listed.{cleared}
 
 -- zeros past the ids of a walk, and beside a refusal nothing else
-pub cleared-listed : (w : Walked) (count : ℕ) (ids after : List ℕ) → w ≡ Listed count → after ≡ padded (take count ids) (length ids) → after ≡ cleared w ids
+pub cleared_listed : (w : Walked) (count : ℕ) (ids after : List ℕ) → w ≡ Listed count → after ≡ padded (take count ids) (length ids) → after ≡ cleared w ids
 unfolding cleared
-cleared-listed w count ids after e a = a ∙ rw e
+cleared_listed w count ids after e a = a ∙ rw e
 
-pub cleared-refused : (w : Walked) (k : ℕ) (ids after : List ℕ) → w ≡ Refused k → after ≡ padded (take 0 ids) (length ids) → after ≡ cleared w ids
+pub cleared_refused : (w : Walked) (k : ℕ) (ids after : List ℕ) → w ≡ Refused k → after ≡ padded (take 0 ids) (length ids) → after ≡ cleared w ids
 unfolding cleared
-cleared-refused w k ids after e a = a ∙ rw e
+cleared_refused w k ids after e a = a ∙ rw e

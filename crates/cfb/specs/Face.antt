@@ -2,12 +2,12 @@
 use Rattle.std.specs.Prelude.{ℕ, ◌≡◌, List, [], ◌∷◌, eqb, length}
 use Rattle.lists.specs.Lists.{choose}
 use Rattle.header.specs.Versions.{length_of}
-use Rattle.header.specs.Read.{headerOf, none}
+use Rattle.header.specs.Read.{header_of, none}
 use Rattle.header.specs.declared.Validation.{Validation}
 use Rattle.header.specs.declared.Validation.TheVariants.{Strict}
-use Rattle.fat.specs.Lists.{sectorsIn}
-use Rattle.alloc.specs.Opening.{Tables, openTables, openNo, shortest}
-use Rattle.alloc.specs.Opened.{tablesLeft}
+use Rattle.fat.specs.Lists.{sectors_in}
+use Rattle.alloc.specs.Opening.{Tables, open_tables, open_no, shortest}
+use Rattle.alloc.specs.Opened.{tables_left}
 use Rattle.cfb.specs.declared.Verdict.{Verdict}
 use Rattle.cfb.specs.declared.Verdict.TheVariants.{Accepted, Refused}
 use Rattle.cfb.specs.declared.State.{State}
@@ -19,38 +19,38 @@ number_of (Accepted sectors free) = 0
 number_of (Refused k) = k
 
 -- the number and the counts of each case: no count stands beside a refusal
-abbrev pub numbersOf : Verdict → List ℕ
-numbersOf (Accepted sectors free) = 0 ∷ sectors ∷ free ∷ []
-numbersOf (Refused k) = k ∷ []
+abbrev pub numbers_of : Verdict → List ℕ
+numbers_of (Accepted sectors free) = 0 ∷ sectors ∷ free ∷ []
+numbers_of (Refused k) = k ∷ []
 
 -- the numbers of an opening that ends with k: its counts where that is 0
 unfoldable pub answer : ℕ → ℕ → ℕ → List ℕ
 answer k sectors free = choose (eqb k 0) (0 ∷ sectors ∷ free ∷ []) (k ∷ [])
 
 -- document 01: the state beside a refusal is version 3, strict, all numbers 0
-unfoldable pub noState : State
-noState = record { mode = Strict; used = 0; sectors = 0; free = 0; header = none }
+unfoldable pub no_state : State
+no_state = record { mode = Strict; used = 0; sectors = 0; free = 0; header = none }
 
 -- document 01, n: the sectors in so many bytes of an image
-unfoldable pub sectorsOf : List ℕ → ℕ → ℕ
-unfolding sectorsIn
-sectorsOf img used = sectorsIn (length_of (headerOf img).version) used
+unfoldable pub sectors_of : List ℕ → ℕ → ℕ
+unfolding sectors_in
+sectors_of img used = sectors_in (length_of (header_of img).version) used
 
 -- the tables of an image of which so many bytes are used
 unfoldable pub tables_of : List ℕ → ℕ → Tables
-unfolding sectorsOf openTables
-tables_of img used = openTables (length_of (headerOf img).version) img (headerOf img) (sectorsOf img used)
+unfolding sectors_of open_tables
+tables_of img used = open_tables (length_of (header_of img).version) img (header_of img) (sectors_of img used)
 
 -- document 01: the state that an opening which ends with k hands out
 unfoldable pub state_of : ℕ → Validation → List ℕ → ℕ → State
-unfolding noState sectorsOf tables_of
+unfolding no_state sectors_of tables_of
 state_of k m img used =
-    choose (eqb k 0) (record { mode = m; used = used; sectors = sectorsOf img used; free = length (tables_of img used).frees; header = headerOf img })
-    noState
+    choose (eqb k 0) (record { mode = m; used = used; sectors = sectors_of img used; free = length (tables_of img used).frees; header = header_of img })
+    no_state
 
 -- what an opening says: the answer, the state, the image, which it leaves alone, and the lent tables t, which it leaves as t'
 pub record Opens (m : Validation) (img : List ℕ) (used : ℕ) (t : Tables) (r : Opened) (img' : List ℕ) (t' : Tables) : Type 0 where
-  pub verdict : numbersOf r.verdict ≡ answer (openNo m img used (shortest t)) (sectorsOf img used) (length (tables_of img used).frees)
-  pub state : r.state ≡ state_of (openNo m img used (shortest t)) m img used
+  pub verdict : numbers_of r.verdict ≡ answer (open_no m img used (shortest t)) (sectors_of img used) (length (tables_of img used).frees)
+  pub state : r.state ≡ state_of (open_no m img used (shortest t)) m img used
   pub image : img' ≡ img
-  pub tables : t' ≡ tablesLeft (openNo m img used (shortest t)) t (tables_of img used)
+  pub tables : t' ≡ tables_left (open_no m img used (shortest t)) t (tables_of img used)

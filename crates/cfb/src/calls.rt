@@ -1,7 +1,7 @@
 // What every call on a chain begins with: lengths, agreement, and the walk (document 01, refusals 11 and 19 to 22).
 ghost use Rattle.std.specs.Prelude.{◌≡◌};
-ghost use Rattle.cfb.specs.Calls.{stateLen};
-ghost use Rattle.cfb.specs.Listed.{cleared, answerFrom, ChainListed};
+ghost use Rattle.cfb.specs.Calls.{state_len};
+ghost use Rattle.cfb.specs.Listed.{cleared, answer_from, ChainListed};
 
 use crate::{Answer, State};
 use agree::whole::agrees;
@@ -13,7 +13,7 @@ use walk::{Walked, walk};
 
 // The length of the sectors of an open image.
 pub(crate) fn len_of(s: State) -> usize
-    ensures { result ≡ stateLen s }
+    ensures { result ≡ state_len s }
 {
     let version = s.version();
     version.sector_len()
@@ -64,7 +64,7 @@ pub(crate) fn chain_of(
 
 // The answer of a call that read nothing, by what its walk answers.
 pub(crate) fn answer_of(walked: Walked, start: u32) -> Answer
-    ensures { result ≡ answerFrom walked start 0 }
+    ensures { result ≡ answer_from walked start 0 }
 {
     match walked {
         Walked::Listed(count) => Answer::Done {

@@ -1,10 +1,10 @@
 // What every change of a chain begins and ends with: the refusals before its first store, and the state after its last (document 01, "Calls on a chain").
 ghost use Rattle.std.specs.Prelude.{◌≡◌, ◌+◌, ◌*◌, ◌≤◌, ◌<◌, eqb, length, get_or};
-ghost use Rattle.fat.specs.Lists.{roomOf};
-ghost use Rattle.moves.specs.Change.{seekOf, bytes_of};
-ghost use Rattle.cfb.specs.Calls.{stateLen, chainIds};
-ghost use Rattle.cfb.specs.Listed.{walkedNo};
-ghost use Rattle.cfb.specs.Changes.{ChangeListed, noRoom, editNo, Listing, Judged, start_in, doneWith};
+ghost use Rattle.fat.specs.Lists.{room_of};
+ghost use Rattle.moves.specs.Change.{seek_of, bytes_of};
+ghost use Rattle.cfb.specs.Calls.{state_len, chain_ids};
+ghost use Rattle.cfb.specs.Listed.{walked_no};
+ghost use Rattle.cfb.specs.Changes.{ChangeListed, no_room, edit_no, Listing, Judged, start_in, done_with};
 
 use crate::calls::{chain_of, len_of};
 use crate::{Answer, Called, State};
@@ -16,7 +16,7 @@ use walk::Walked;
 
 // The number of a walk's answer: 0 where ids are listed.
 fn number_of(walked: Walked) -> u32
-    ensures { result ≡ walkedNo walked }
+    ensures { result ≡ walked_no walked }
 {
     match walked {
         Walked::Listed(_) => 0,
@@ -74,8 +74,8 @@ pub(crate) fn change_of(
 
 // Whether a lent image has no room for so many sectors more in a chain.
 pub(crate) fn no_room(s: State, lent: usize, more: usize) -> bool
-    requires { s.sectors ≤ roomOf (stateLen s) lent }
-    ensures { result ≡ noRoom s lent more }
+    requires { s.sectors ≤ room_of (state_len s) lent }
+    ensures { result ≡ no_room s lent more }
 {
     let free = s.free;
     if more <= free {
@@ -87,7 +87,7 @@ pub(crate) fn no_room(s: State, lent: usize, more: usize) -> bool
 
 // The byte that an edit begins at: a resize has none to seek.
 fn seek_of(edit: Edit) -> u64
-    ensures { result ≡ seekOf edit }
+    ensures { result ≡ seek_of edit }
 {
     match edit {
         Edit::Write(offset) => offset,
@@ -105,7 +105,7 @@ pub(crate) fn edit_listed(
     bytes: usize,
 ) -> Walked
     requires { Listing s lent walked ids.old }
-    ensures { (l : Listing s lent walked ids.old) → Judged (editNo s l.image l.tables (length l.before) l.start edit bytes) l.before (chainIds s l.tables l.start) result ids.new }
+    ensures { (l : Listing s lent walked ids.old) → Judged (edit_no s l.image l.tables (length l.before) l.start edit bytes) l.before (chain_ids s l.tables l.start) result ids.new }
 {
     let Walked::Listed(count) = walked else {
         return walked;
@@ -152,8 +152,8 @@ pub(crate) fn done_with(
     edit: Edit,
     given: usize,
 ) -> Called
-    requires { (512 ≤ length image.now) × ((changed.sectors + 1) * stateLen s ≤ length image.now) × (changed.ids ≤ length ids.now) }
-    ensures { result ≡ doneWith s image.now ids.now changed (bytes_of edit given) }
+    requires { (512 ≤ length image.now) × ((changed.sectors + 1) * state_len s ≤ length image.now) × (changed.ids ≤ length ids.now) }
+    ensures { result ≡ done_with s image.now ids.now changed (bytes_of edit given) }
 {
     let len = len_of(s);
     let sectors = changed.sectors;

@@ -3,9 +3,9 @@ mod calls;
 mod changes;
 
 ghost use Rattle.std.specs.Prelude.{◌≡◌};
-ghost use Rattle.cfb.specs.Calls.{answerNo, ChainOpens, ChainReads};
+ghost use Rattle.cfb.specs.Calls.{answer_no, ChainOpens, ChainReads};
 ghost use Rattle.cfb.specs.Changes.{ChainEdits, ChainWrites, ChainResizes};
-ghost use Rattle.cfb.specs.Face.{number_of, noState, Opens};
+ghost use Rattle.cfb.specs.Face.{number_of, no_state, Opens};
 
 use alloc::open::open_tables;
 use calls::{answer_of, chain_of, len_of};
@@ -67,7 +67,7 @@ pub enum Answer {
 impl Answer {
     // Document 01's number of the answer: 0 for an acceptance.
     pub fn number(self) -> u32
-        ensures { result ≡ answerNo self }
+        ensures { result ≡ answer_no self }
     {
         match self {
             Answer::Done {
@@ -90,7 +90,7 @@ pub struct Called {
 impl State {
     // What stands beside a refusal: version 3, strict, all numbers 0.
     pub fn none() -> State
-        ensures { result ≡ noState }
+        ensures { result ≡ no_state }
     {
         let header = Header::none();
         State {

@@ -7,7 +7,7 @@ use native.Mathlib.Nat.{mod-lt}
 use borrow.Rule.Slice.PartMut.{put_mid}
 use lib.ListN.{length, get_or, take, drop}
 use Rattle.lists.specs.Lists.{splice, part}
-use Rattle.lists.proofs.Splice.{putMid-splice}
+use Rattle.lists.proofs.Splice.{putMid_splice}
 use Rattle.sectors.specs.Sectors.{start_of}
 use Rattle.sectors.proofs.Laws.{scaled}
 use Rattle.chain.specs.Bytes.{Lies}
@@ -19,28 +19,28 @@ pub record Stands (S len : ℕ) (ids : List ℕ) (o : ℕ) : Type 0 where
 
 module _ {S len : ℕ} {ids : List ℕ} {o : ℕ} (b : Stands S len ids o) where
   -- its sector lies in the image, and has a number below the image's length
-  pub stands-inside : start_of S (get_or ids (o / S) 0) + S ≤ len
-  stands-inside = b.lies.inside (o / S) b.place
+  pub stands_inside : start_of S (get_or ids (o / S) 0) + S ≤ len
+  stands_inside = b.lies.inside (o / S) b.place
 
-  pub stands-id : get_or ids (o / S) 0 < len
-  stands-id = omega (arith, stands-inside, scaled (get_or ids (o / S) 0 + 1) S b.lies.some)
+  pub stands_id : get_or ids (o / S) 0 < len
+  stands_id = omega (arith, stands_inside, scaled (get_or ids (o / S) 0 + 1) S b.lies.some)
 
   -- and it has a place within that sector
-  pub stands-byte : o % S < S
-  stands-byte = mod-lt o b.lies.some
+  pub stands_byte : o % S < S
+  stands_byte = mod-lt o b.lies.some
 
   -- a run from there that does not pass the sector's end lies in the image
   pub run_inside : (k : ℕ) → k ≤ S - o % S → (start_of S (get_or ids (o / S) 0) + S ≤ len) × ((0 < S) × (o % S + k ≤ S))
-  run_inside k h = (stands-inside, (b.lies.some, omega (arith, h, stands-byte)))
+  run_inside k h = (stands_inside, (b.lies.some, omega (arith, h, stands_byte)))
 
   -- and one that ends there or with the last of count elements leaves fewer to do
-  pub run-less : (count done step : ℕ) → done < count → step ≡ min (S - o % S) (count - done) → count - (done + step) < count - done
-  run-less count done step more e = omega (arith, stands-byte)
+  pub run_less : (count done step : ℕ) → done < count → step ≡ min (S - o % S) (count - done) → count - (done + step) < count - done
+  run_less count done step more e = omega (arith, stands_byte)
 
 -- k elements from a on, as they are lent, and as they are put back
-pub lent-run : (xs : List ℕ) (a k : ℕ) → take (a + k - a) (drop a xs) ≡ part xs a k
+pub lent_run : (xs : List ℕ) (a k : ℕ) → take (a + k - a) (drop a xs) ≡ part xs a k
 unfolding part
-lent-run xs a k = let width : a + k - a ≡ k = omega arith in rw width
+lent_run xs a k = let width : a + k - a ≡ k = omega arith in rw width
 
-pub back-run : (xs : List ℕ) (a k : ℕ) (run : List ℕ) → length run ≡ k → put_mid a (a + k - a) xs run ≡ splice xs a run
-back-run xs a k run e = putMid-splice a (a + k - a) xs run (omega (arith, e))
+pub back_run : (xs : List ℕ) (a k : ℕ) (run : List ℕ) → length run ≡ k → put_mid a (a + k - a) xs run ≡ splice xs a run
+back_run xs a k run e = putMid_splice a (a + k - a) xs run (omega (arith, e))

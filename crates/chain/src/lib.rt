@@ -1,7 +1,7 @@
 // The bytes of a chain of sectors (document 01, Calls on a chain): the reading of them.
 ghost use Rattle.std.specs.Prelude.{◌≡◌, ◌+◌, ◌*◌, ◌≤◌, ◌<◌, length};
 ghost use Rattle.lists.specs.Lists.{part};
-ghost use Rattle.sectors.specs.Sectors.{start_of, sectorOf};
+ghost use Rattle.sectors.specs.Sectors.{start_of, sector_of};
 ghost use Rattle.chain.specs.Bytes.{Readable, ReadLeft};
 
 use fat::load::lesser;
@@ -19,7 +19,7 @@ fn copy_from(sector: &[u8], x: usize, out: &mut [u8])
 fn read_at(image: &[u8], s: usize, id: usize, x: usize, out: &mut [u8])
     requires s_in_bounds { start_of s id + s ≤ length image.now }
     requires s_nonzero { (0 < s) × (x + length out.old ≤ s) }
-    ensures { out.new ≡ part (sectorOf s image.now id) x (length out.old) }
+    ensures { out.new ≡ part (sector_of s image.now id) x (length out.old) }
 {
     let a = (id + 1) * s;
     let b = a + s;

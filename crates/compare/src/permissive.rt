@@ -1,10 +1,10 @@
 // Whether a FAT in memory is the image's as a permissive opening reads it: marked and forgiven (document 01, refusals 14 and 15).
 ghost use Rattle.std.specs.Prelude.{◌≡◌, true, length};
 ghost use Rattle.lists.specs.Lists.{same_list};
-ghost use Rattle.fat.specs.Lists.{all_below, fatOf};
+ghost use Rattle.fat.specs.Lists.{all_below, fat_of};
 ghost use Rattle.fat.specs.Loaded.{Covers};
-ghost use Rattle.judge.specs.Judge.{forgiven as forgivenOf, forgivenFat};
-ghost use Rattle.compare.specs.Compare.{permissiveSame};
+ghost use Rattle.judge.specs.Judge.{forgiven as forgivenOf, forgiven_fat};
+ghost use Rattle.compare.specs.Compare.{permissive_same};
 
 use crate::limit_of;
 use fat::load::load_fat;
@@ -26,7 +26,7 @@ pub fn forgiven(limit: u32, entry: u32) -> u32
 // Whether `fat` is `raw` with END for each regular entry at or above n, the number of entries.
 pub fn is_forgiven(raw: &[u32], fat: &[u32]) -> bool
     requires { length raw.now ≡ length fat.now }
-    ensures { result ≡ same_list fat.now (forgivenFat (length fat.now) raw.now) }
+    ensures { result ≡ same_list fat.now (forgiven_fat (length fat.now) raw.now) }
 {
     let limit = limit_of(fat.len());
     let mut same = true;
@@ -50,7 +50,7 @@ pub fn same_permissive(
     requires covers { Covers s (length fat.now) (length image.now) fats.now (length fat.now) }
     requires difats_value { all_below (length fat.now) difats.now ≡ true }
     requires room_len { length room.old ≡ length fat.now }
-    ensures { result ≡ permissiveSame (fatOf s image.now fats.now (length fat.now)) difats.now fats.now fat.now }
+    ensures { result ≡ permissive_same (fat_of s image.now fats.now (length fat.now)) difats.now fats.now fat.now }
 {
     load_fat(image, s, fat.len(), fats, room);
     set_listed(room, difats, fats);

@@ -1,6 +1,6 @@
 // The numbers of a compound file, the six kinds of a FAT entry, and the short list of a run of entries that `prettify` gives.
 ghost use Rattle.std.specs.Prelude.{◌≡◌, drop};
-ghost use Rattle.consts.specs.Consts.{headerLen, dirEntryLen, headerDifat, miniLen};
+ghost use Rattle.consts.specs.Consts.{header_len, dir_entry_len, header_difat, mini_len};
 ghost use Rattle.consts.specs.Kinds.{kind_of};
 ghost use Rattle.consts.specs.Pretty.{item_at};
 ghost use Rattle.consts.specs.Runs.{run_of, end_of};
@@ -61,7 +61,7 @@ pub struct Lengths {
 
 // The lengths above, each equal to its definition: the constants themselves have no contract.
 pub fn format_lengths() -> Lengths
-    ensures { result ≡ record { header = headerLen; entry = dirEntryLen; listed = headerDifat; mini = miniLen } }
+    ensures { result ≡ record { header = header_len; entry = dir_entry_len; listed = header_difat; mini = mini_len } }
 {
     Lengths {
         header: HEADER_LEN,

@@ -9,268 +9,268 @@ use native.Mathlib.Numerals.{add-one}
 use borrow.Author.Tests.{lt-ltb, le-ltb, eq-eqb, ne_eqb}
 use lib.ListN.{length, get_or}
 use Rattle.lists.specs.Lists.{choose}
-use Rattle.lists.proofs.Cases.{below_or, same_or, true-or}
+use Rattle.lists.proofs.Cases.{below_or, same_or, true_or}
 use Rattle.words.specs.Words.{digits}
-use Rattle.consts.specs.Consts.{difatSector, fatSector, endOfChain}
-use Rattle.fields.specs.Fields.{fatsAt, difatsAt, entries_at, offset_of}
-use Rattle.sectors.specs.Sectors.{start_of, perSector}
-use Rattle.sectors.specs.Init.{initBytes}
+use Rattle.consts.specs.Consts.{difat_sector, fat_sector, end_of_chain}
+use Rattle.fields.specs.Fields.{fats_at, difats_at, entries_at, offset_of}
+use Rattle.sectors.specs.Sectors.{start_of, per_sector}
+use Rattle.sectors.specs.Init.{init_bytes}
 use Rattle.sectors.specs.declared.init.SectorInit.TheVariants.{Zero, Fat, Difat}
-use Rattle.fat.specs.Lists.{fatCount, difatCount}
-use Rattle.disk.specs.Disk.{Disk, store, setFat, pushFat, listFat, listDifat, linkPlace, appendDifat, needsDifat, storePlace, holdPlace, listPlace, appendFat, afterFat, oneMore, countAfter, ready, newSector, reused}
+use Rattle.fat.specs.Lists.{fat_count, difat_count}
+use Rattle.disk.specs.Disk.{Disk, store, set_fat, push_fat, list_fat, list_difat, link_place, append_difat, needs_difat, store_place, hold_place, list_place, append_fat, after_fat, one_more, count_after, ready, new_sector, reused}
 use Rattle.disk.specs.Fits.{Fits, FitsWhole, FitsFat, FitsNew}
-use Rattle.disk.proofs.Counting.{fat-suc, fat-full, fat-part, fat-has, difat-none, difat-suc, needs-full, needs-not, needs-near, div-near, after-needs, after-not, after-few, one-full, one-part}
-use Rattle.disk.proofs.Keeping.{SameLong, Kept, kept_then, kept-none, each-many, header-inside, sectors-of-fat, difats-inside, link-inside, number-kept, init-kept, set-kept, push_kept, grow-kept, list-kept}
+use Rattle.disk.proofs.Counting.{fat_suc, fat_full, fat_part, fat_has, difat_none, difat_suc, needs_full, needs_not, needs_near, div_near, after_needs, after_not, after_few, one_full, one_part}
+use Rattle.disk.proofs.Keeping.{SameLong, Kept, kept_then, kept_none, each_many, header_inside, sectors_of_fat, difats_inside, link_inside, number_kept, init_kept, set_kept, push_kept, grow_kept, list_kept}
 
 -- the next sector as a DIFAT sector, step by step: new, marked, linked, listed
-abbrev pub difatNew : ℕ → Disk → Disk
-difatNew S d = store d (start_of S d.sectors) (initBytes S Difat)
+abbrev pub difat_new : ℕ → Disk → Disk
+difat_new S d = store d (start_of S d.sectors) (init_bytes S Difat)
 
-abbrev pub difatMarked : ℕ → Disk → Disk
-difatMarked S d = pushFat S (difatNew S d) difatSector
+abbrev pub difat_marked : ℕ → Disk → Disk
+difat_marked S d = push_fat S (difat_new S d) difat_sector
 
-abbrev pub difatLinked : ℕ → Disk → ℕ → Disk
-difatLinked S d j = store (difatMarked S d) (linkPlace S d.difats j) (digits 4 d.sectors)
+abbrev pub difat_linked : ℕ → Disk → ℕ → Disk
+difat_linked S d j = store (difat_marked S d) (link_place S d.difats j) (digits 4 d.sectors)
 
-abbrev pub difatListed : ℕ → Disk → ℕ → Disk
-difatListed S d j = listDifat (difatLinked S d j) j d.sectors
+abbrev pub difat_listed : ℕ → Disk → ℕ → Disk
+difat_listed S d j = list_difat (difat_linked S d j) j d.sectors
 
-pub difat-kept : (S R k j : ℕ) (d : Disk) → d.sectors / perSector S < k → d.sectors < R → j < R → Fits S R k j d → Kept S R k (suc j) d (appendDifat S d j)
-unfolding appendDifat store pushFat listDifat
-difat-kept S R k j d l room more f =
-    kept_then S R k j k (suc j) d (difatNew S d) (appendDifat S d j) (init-kept S R k j d f d.sectors Difat room) (λ f1.
-    kept_then S R k j k (suc j) (difatNew S d) (difatMarked S d) (appendDifat S d j) (push_kept S R k j (difatNew S d) f1 difatSector l room) (λ f2.
-    kept_then S R k j k (suc j) (difatMarked S d) (difatLinked S d j) (appendDifat S d j) (number-kept S R k j (difatMarked S d) f2 (linkPlace S d.difats j) d.sectors (link-inside S R k j (difatMarked S d) f2)) (λ f3.
-    kept_then S R k (suc j) k (suc j) (difatLinked S d j) (difatListed S d j) (appendDifat S d j) (list-kept S R k j (difatLinked S d j) f3 d.sectors (omega arith) more) (λ f4.
-    number-kept S R k (suc j) (difatListed S d j) f4 (offset_of difatsAt) (j + 1) (omega (arith, header-inside S R k (suc j) (difatListed S d j) f4, f4.header))))))
+pub difat_kept : (S R k j : ℕ) (d : Disk) → d.sectors / per_sector S < k → d.sectors < R → j < R → Fits S R k j d → Kept S R k (suc j) d (append_difat S d j)
+unfolding append_difat store push_fat list_difat
+difat_kept S R k j d l room more f =
+    kept_then S R k j k (suc j) d (difat_new S d) (append_difat S d j) (init_kept S R k j d f d.sectors Difat room) (λ f1.
+    kept_then S R k j k (suc j) (difat_new S d) (difat_marked S d) (append_difat S d j) (push_kept S R k j (difat_new S d) f1 difat_sector l room) (λ f2.
+    kept_then S R k j k (suc j) (difat_marked S d) (difat_linked S d j) (append_difat S d j) (number_kept S R k j (difat_marked S d) f2 (link_place S d.difats j) d.sectors (link_inside S R k j (difat_marked S d) f2)) (λ f3.
+    kept_then S R k (suc j) k (suc j) (difat_linked S d j) (difat_listed S d j) (append_difat S d j) (list_kept S R k j (difat_linked S d j) f3 d.sectors (omega arith) more) (λ f4.
+    number_kept S R k (suc j) (difat_listed S d j) f4 (offset_of difats_at) (j + 1) (omega (arith, header_inside S R k (suc j) (difat_listed S d j) f4, f4.header))))))
 
 -- a DIFAT sector added where none holds place p
-pub hold-kept : (S R k p : ℕ) (d : Disk) → 109 ≤ p → p < R → d.sectors / perSector S < k → (needsDifat S p ≡ true → d.sectors < R)
-    → Fits S R k (difatCount S p) d → Kept S R k (difatCount S (suc p)) d (holdPlace S d p)
-unfolding holdPlace
-hold-kept S R k p d far small l room f =
-    let two : 2 ≤ perSector S = omega (arith, each-many S R k (difatCount S p) d f) in
+pub hold_kept : (S R k p : ℕ) (d : Disk) → 109 ≤ p → p < R → d.sectors / per_sector S < k → (needs_difat S p ≡ true → d.sectors < R)
+    → Fits S R k (difat_count S p) d → Kept S R k (difat_count S (suc p)) d (hold_place S d p)
+unfolding hold_place
+hold_kept S R k p d far small l room f =
+    let two : 2 ≤ per_sector S = omega (arith, each_many S R k (difat_count S p) d f) in
     ⊎_elim
-    (λ (t : needsDifat S p ≡ true).
-    rw (t, difat-suc S p two far)
-    (difat-kept S R k ((p - 109) / (perSector S - 1)) d l (room t) (omega (arith, div-le_self (p - 109) (perSector S - 1), small)) (rw (needs-full S p two t) at f)))
-    (λ (t : needsDifat S p ≡ false). rw (t, difat-suc S p two far) (kept-none S R k _ d (rw (needs-not S p two far t) at f)))
-    (true-or (needsDifat S p))
+    (λ (t : needs_difat S p ≡ true).
+    rw (t, difat_suc S p two far)
+    (difat_kept S R k ((p - 109) / (per_sector S - 1)) d l (room t) (omega (arith, div-le_self (p - 109) (per_sector S - 1), small)) (rw (needs_full S p two t) at f)))
+    (λ (t : needs_difat S p ≡ false). rw (t, difat_suc S p two far) (kept_none S R k _ d (rw (needs_not S p two far t) at f)))
+    (true_or (needs_difat S p))
 
 -- where place p stands in the DIFAT sector that has it
-pub place_inside : (S R k p : ℕ) (d : Disk) → 109 ≤ p → Fits S R k (difatCount S (suc p)) d
-    → start_of S (get_or d.difats ((p - 109) / (perSector S - 1)) 0) + S ≤ length d.image
+pub place_inside : (S R k p : ℕ) (d : Disk) → 109 ≤ p → Fits S R k (difat_count S (suc p)) d
+    → start_of S (get_or d.difats ((p - 109) / (per_sector S - 1)) 0) + S ≤ length d.image
 place_inside S R k p d far f =
-    difats-inside S R k (difatCount S (suc p)) d f ((p - 109) / (perSector S - 1))
-    (omega (arith, difat-suc S p (omega (arith, each-many S R k (difatCount S (suc p)) d f)) far))
+    difats_inside S R k (difat_count S (suc p)) d f ((p - 109) / (per_sector S - 1))
+    (omega (arith, difat_suc S p (omega (arith, each_many S R k (difat_count S (suc p)) d f)) far))
 
-pub place-in-sector : (S p : ℕ) → S ≡ 4 * perSector S → 2 ≤ perSector S → 4 * ((p - 109) % (perSector S - 1)) + 4 ≤ S
-place-in-sector S p e two = omega (arith, mod-lt (p - 109) {m = perSector S - 1} (omega (arith, two)), e)
+pub place_in_sector : (S p : ℕ) → S ≡ 4 * per_sector S → 2 ≤ per_sector S → 4 * ((p - 109) % (per_sector S - 1)) + 4 ≤ S
+place_in_sector S p e two = omega (arith, mod-lt (p - 109) {m = per_sector S - 1} (omega (arith, two)), e)
 
 -- a FAT sector in its place of the DIFAT
-pub place_kept : (S R k p : ℕ) (d : Disk) (id : ℕ) → p < R → d.sectors / perSector S < k → (needsDifat S p ≡ true → d.sectors < R)
-    → Fits S R k (difatCount S p) d → Kept S R k (difatCount S (suc p)) d (listPlace S d p id)
-unfolding listPlace storePlace
+pub place_kept : (S R k p : ℕ) (d : Disk) (id : ℕ) → p < R → d.sectors / per_sector S < k → (needs_difat S p ≡ true → d.sectors < R)
+    → Fits S R k (difat_count S p) d → Kept S R k (difat_count S (suc p)) d (list_place S d p id)
+unfolding list_place store_place
 place_kept S R k p d id small l room f =
-    let two : 2 ≤ perSector S = omega (arith, each-many S R k (difatCount S p) d f) in
+    let two : 2 ≤ per_sector S = omega (arith, each_many S R k (difat_count S p) d f) in
     ⊎_elim
     (λ (near : p < 109).
-    rw (lt-ltb p 109 near, difat-none S (suc p) two near)
-    (number-kept S R k 0 d (rw (difat-none S p two (omega (arith, near))) at f) (offset_of entries_at + 4 * p) id (omega (arith, header-inside S R k (difatCount S p) d f, f.header, near))))
+    rw (lt-ltb p 109 near, difat_none S (suc p) two near)
+    (number_kept S R k 0 d (rw (difat_none S p two (omega (arith, near))) at f) (offset_of entries_at + 4 * p) id (omega (arith, header_inside S R k (difat_count S p) d f, f.header, near))))
     (λ (far : 109 ≤ p).
     rw (le-ltb p 109 far)
-    (kept_then S R k (difatCount S (suc p)) k (difatCount S (suc p)) d (holdPlace S d p) _ (hold-kept S R k p d far small l room f) (λ g.
-    number-kept S R k (difatCount S (suc p)) (holdPlace S d p) g
-    (start_of S (get_or (holdPlace S d p).difats ((p - 109) / (perSector S - 1)) 0) + 4 * ((p - 109) % (perSector S - 1))) id
-    (omega (arith, place_inside S R k p (holdPlace S d p) far g, place-in-sector S p f.holds.entries two)))))
+    (kept_then S R k (difat_count S (suc p)) k (difat_count S (suc p)) d (hold_place S d p) _ (hold_kept S R k p d far small l room f) (λ g.
+    number_kept S R k (difat_count S (suc p)) (hold_place S d p) g
+    (start_of S (get_or (hold_place S d p).difats ((p - 109) / (per_sector S - 1)) 0) + 4 * ((p - 109) % (per_sector S - 1))) id
+    (omega (arith, place_inside S R k p (hold_place S d p) far g, place_in_sector S p f.holds.entries two)))))
     (below_or p 109)
 
 -- the next sector as a FAT sector: new, listed, marked
-abbrev pub fatNew : ℕ → Disk → Disk
-fatNew S d = store d (start_of S d.sectors) (initBytes S Fat)
+abbrev pub fat_new : ℕ → Disk → Disk
+fat_new S d = store d (start_of S d.sectors) (init_bytes S Fat)
 
-abbrev pub fatMarked : ℕ → Disk → Disk
-fatMarked S d = pushFat S (listFat (fatNew S d) (d.sectors / perSector S) d.sectors) fatSector
+abbrev pub fat_marked : ℕ → Disk → Disk
+fat_marked S d = push_fat S (list_fat (fat_new S d) (d.sectors / per_sector S) d.sectors) fat_sector
 
 -- what a full FAT comes to
 module _ (S R : ℕ) (d : Disk) (f : FitsFat S R d) where
-  pub full-many : 128 ≤ perSector S
-  full-many = each-many S R _ _ d f.fits
+  pub full_many : 128 ≤ per_sector S
+  full_many = each_many S R _ _ d f.fits
 
-  pub full-room : d.sectors < R
-  full-room = omega (arith, (after-few S d.sectors).0, f.room)
+  pub full_room : d.sectors < R
+  full_room = omega (arith, (after_few S d.sectors).0, f.room)
 
-  pub full-fits : Fits S R (d.sectors / perSector S) (difatCount S (d.sectors / perSector S)) d
-  full-fits = rw (fat-full S d.sectors (omega (arith, full-many)) f.full) at f.fits
+  pub full_fits : Fits S R (d.sectors / per_sector S) (difat_count S (d.sectors / per_sector S)) d
+  full_fits = rw (fat_full S d.sectors (omega (arith, full_many)) f.full) at f.fits
 
-  pub full-place : d.sectors / perSector S < R
-  full-place = omega (arith, div-le_self d.sectors (perSector S), full-room)
+  pub full_place : d.sectors / per_sector S < R
+  full_place = omega (arith, div-le_self d.sectors (per_sector S), full_room)
 
-  pub marked-same : suc d.sectors / perSector S ≡ d.sectors / perSector S
-  marked-same =
-      ap (λ (n : ℕ). n / perSector S) (sym (add-one d.sectors))
-      ∙ div-near (perSector S) (omega (arith, full-many)) d.sectors 1 f.full (omega (arith, full-many))
+  pub marked_same : suc d.sectors / per_sector S ≡ d.sectors / per_sector S
+  marked_same =
+      ap (λ (n : ℕ). n / per_sector S) (sym (add-one d.sectors))
+      ∙ div_near (per_sector S) (omega (arith, full_many)) d.sectors 1 f.full (omega (arith, full_many))
 
-  pub marked-room : needsDifat S (d.sectors / perSector S) ≡ true → suc d.sectors < R
-  marked-room t = omega (arith, after-needs S d.sectors t, f.room)
+  pub marked_room : needs_difat S (d.sectors / per_sector S) ≡ true → suc d.sectors < R
+  marked_room t = omega (arith, after_needs S d.sectors t, f.room)
 
-  pub marked-kept : Kept S R (suc (d.sectors / perSector S)) (difatCount S (d.sectors / perSector S)) d (fatMarked S d)
+  pub marked_kept : Kept S R (suc (d.sectors / per_sector S)) (difat_count S (d.sectors / per_sector S)) d (fat_marked S d)
   unfolding store
-  marked-kept =
-      kept_then S R _ _ _ _ d (fatNew S d) (fatMarked S d) (init-kept S R _ _ d full-fits d.sectors Fat full-room) (λ g.
-      grow-kept S R (d.sectors / perSector S) _ (fatNew S d) g fatSector refl full-room)
+  marked_kept =
+      kept_then S R _ _ _ _ d (fat_new S d) (fat_marked S d) (init_kept S R _ _ d full_fits d.sectors Fat full_room) (λ g.
+      grow_kept S R (d.sectors / per_sector S) _ (fat_new S d) g fat_sector refl full_room)
 
-  pub fat-kept : Kept S R (suc (d.sectors / perSector S)) (difatCount S (suc (d.sectors / perSector S))) d (appendFat S d)
-  unfolding appendFat store pushFat listFat
-  fat-kept =
-      let k = d.sectors / perSector S in
-      kept_then S R (suc k) (difatCount S k) (suc k) (difatCount S (suc k)) d (fatMarked S d) (appendFat S d) marked-kept (λ g.
-      kept_then S R (suc k) (difatCount S (suc k)) (suc k) (difatCount S (suc k)) (fatMarked S d) (listPlace S (fatMarked S d) k d.sectors) (appendFat S d)
-      (place_kept S R (suc k) k (fatMarked S d) d.sectors full-place (omega (arith, marked-same)) marked-room g) (λ h.
-      number-kept S R (suc k) (difatCount S (suc k)) (listPlace S (fatMarked S d) k d.sectors) h (offset_of fatsAt) (k + 1)
-      (omega (arith, header-inside S R _ _ (listPlace S (fatMarked S d) k d.sectors) h, h.header))))
+  pub fat_kept : Kept S R (suc (d.sectors / per_sector S)) (difat_count S (suc (d.sectors / per_sector S))) d (append_fat S d)
+  unfolding append_fat store push_fat list_fat
+  fat_kept =
+      let k = d.sectors / per_sector S in
+      kept_then S R (suc k) (difat_count S k) (suc k) (difat_count S (suc k)) d (fat_marked S d) (append_fat S d) marked_kept (λ g.
+      kept_then S R (suc k) (difat_count S (suc k)) (suc k) (difat_count S (suc k)) (fat_marked S d) (list_place S (fat_marked S d) k d.sectors) (append_fat S d)
+      (place_kept S R (suc k) k (fat_marked S d) d.sectors full_place (omega (arith, marked_same)) marked_room g) (λ h.
+      number_kept S R (suc k) (difat_count S (suc k)) (list_place S (fat_marked S d) k d.sectors) h (offset_of fats_at) (k + 1)
+      (omega (arith, header_inside S R _ _ (list_place S (fat_marked S d) k d.sectors) h, h.header))))
 
 -- how many sectors there are then
-pub hold-sectors : (S p : ℕ) (d : Disk) → (holdPlace S d p).sectors ≡ choose (needsDifat S p) (suc d.sectors) d.sectors
-unfolding holdPlace appendDifat store pushFat listDifat
-hold-sectors S p d =
-    ⊎_elim (λ (t : needsDifat S p ≡ true). rw t refl) (λ (t : needsDifat S p ≡ false). rw t refl) (true-or (needsDifat S p))
+pub hold_sectors : (S p : ℕ) (d : Disk) → (hold_place S d p).sectors ≡ choose (needs_difat S p) (suc d.sectors) d.sectors
+unfolding hold_place append_difat store push_fat list_difat
+hold_sectors S p d =
+    ⊎_elim (λ (t : needs_difat S p ≡ true). rw t refl) (λ (t : needs_difat S p ≡ false). rw t refl) (true_or (needs_difat S p))
 
-pub place-sectors : (S p id : ℕ) (d : Disk) → (listPlace S d p id).sectors ≡ choose (needsDifat S p) (suc d.sectors) d.sectors
-unfolding listPlace storePlace store
-place-sectors S p id d =
+pub place_sectors : (S p id : ℕ) (d : Disk) → (list_place S d p id).sectors ≡ choose (needs_difat S p) (suc d.sectors) d.sectors
+unfolding list_place store_place store
+place_sectors S p id d =
     ⊎_elim
-    (λ (near : p < 109). rw (lt-ltb p 109 near, needs-near S p near) refl)
-    (λ (far : 109 ≤ p). rw (le-ltb p 109 far) (hold-sectors S p d))
+    (λ (near : p < 109). rw (lt-ltb p 109 near, needs_near S p near) refl)
+    (λ (far : 109 ≤ p). rw (le-ltb p 109 far) (hold_sectors S p d))
     (below_or p 109)
 
-pub append-sectors : (S : ℕ) (d : Disk) → (appendFat S d).sectors ≡ afterFat S d.sectors
-unfolding appendFat store pushFat listFat
-append-sectors S d =
-    place-sectors S (d.sectors / perSector S) d.sectors (fatMarked S d)
+pub append_sectors : (S : ℕ) (d : Disk) → (append_fat S d).sectors ≡ after_fat S d.sectors
+unfolding append_fat store push_fat list_fat
+append_sectors S d =
+    place_sectors S (d.sectors / per_sector S) d.sectors (fat_marked S d)
     ∙ ⊎_elim
-    (λ (t : needsDifat S (d.sectors / perSector S) ≡ true). rw (t, after-needs S d.sectors t) (omega arith))
-    (λ (t : needsDifat S (d.sectors / perSector S) ≡ false). rw (t, after-not S d.sectors t) (omega arith))
-    (true-or (needsDifat S (d.sectors / perSector S)))
+    (λ (t : needs_difat S (d.sectors / per_sector S) ≡ true). rw (t, after_needs S d.sectors t) (omega arith))
+    (λ (t : needs_difat S (d.sectors / per_sector S) ≡ false). rw (t, after_not S d.sectors t) (omega arith))
+    (true_or (needs_difat S (d.sectors / per_sector S)))
 
-pub ready-full : (S : ℕ) (d : Disk) → d.sectors % perSector S ≡ 0 → ready S d ≡ appendFat S d
+pub ready_full : (S : ℕ) (d : Disk) → d.sectors % per_sector S ≡ 0 → ready S d ≡ append_fat S d
 unfolding ready
-ready-full S d e = rw (eq-eqb (d.sectors % perSector S) 0 e)
+ready_full S d e = rw (eq-eqb (d.sectors % per_sector S) 0 e)
 
-pub ready-part : (S : ℕ) (d : Disk) → d.sectors % perSector S ≢ 0 → ready S d ≡ d
+pub ready_part : (S : ℕ) (d : Disk) → d.sectors % per_sector S ≢ 0 → ready S d ≡ d
 unfolding ready
-ready-part S d e = rw (ne_eqb (d.sectors % perSector S) 0 e)
+ready_part S d e = rw (ne_eqb (d.sectors % per_sector S) 0 e)
 
-pub ready-sectors : (S : ℕ) (d : Disk) → suc (ready S d).sectors ≡ oneMore S d.sectors
-ready-sectors S d =
+pub ready_sectors : (S : ℕ) (d : Disk) → suc (ready S d).sectors ≡ one_more S d.sectors
+ready_sectors S d =
     ⊎_elim
-    (λ (e : d.sectors % perSector S ≡ 0). rw (ready-full S d e, one-full S d.sectors e) (ap suc (append-sectors S d)))
-    (λ (e : d.sectors % perSector S ≢ 0). rw (ready-part S d e, one-part S d.sectors e) refl)
-    (same_or (d.sectors % perSector S) 0)
+    (λ (e : d.sectors % per_sector S ≡ 0). rw (ready_full S d e, one_full S d.sectors e) (ap suc (append_sectors S d)))
+    (λ (e : d.sectors % per_sector S ≢ 0). rw (ready_part S d e, one_part S d.sectors e) refl)
+    (same_or (d.sectors % per_sector S) 0)
 
 -- room for a sector more
 module _ (S R : ℕ) (d : Disk) (f : FitsNew S R d) where
-  pub new-many : 128 ≤ perSector S
-  new-many = each-many S R _ _ d f.fits
+  pub new_many : 128 ≤ per_sector S
+  new_many = each_many S R _ _ d f.fits
 
-  pub new-full : d.sectors % perSector S ≡ 0 → FitsFat S R d
-  new-full e = record { fits = f.fits; full = e; room = omega (arith, one-full S d.sectors e, f.room) }
+  pub new_full : d.sectors % per_sector S ≡ 0 → FitsFat S R d
+  new_full e = record { fits = f.fits; full = e; room = omega (arith, one_full S d.sectors e, f.room) }
 
-  pub ready-room : (ready S d).sectors < R
-  ready-room = omega (arith, ready-sectors S d, f.room)
+  pub ready_room : (ready S d).sectors < R
+  ready_room = omega (arith, ready_sectors S d, f.room)
 
-  pub ready-has : (ready S d).sectors / perSector S < fatCount S (oneMore S d.sectors)
-  ready-has = fat-has S (oneMore S d.sectors) (ready S d).sectors (omega (arith, new-many)) (omega (arith, ready-sectors S d))
+  pub ready_has : (ready S d).sectors / per_sector S < fat_count S (one_more S d.sectors)
+  ready_has = fat_has S (one_more S d.sectors) (ready S d).sectors (omega (arith, new_many)) (omega (arith, ready_sectors S d))
 
-  pub count-full : d.sectors % perSector S ≡ 0 → fatCount S (oneMore S d.sectors) ≡ suc (d.sectors / perSector S)
-  count-full e =
-      let few = after-few S d.sectors in
-      let near : d.sectors + (afterFat S d.sectors - d.sectors) ≡ afterFat S d.sectors = omega (arith, few.0) in
-      ap (fatCount S) (one-full S d.sectors e)
-      ∙ fat-suc S (afterFat S d.sectors) (omega (arith, new-many))
-      ∙ ap suc (ap (λ (n : ℕ). n / perSector S) (sym near)
-      ∙ div-near (perSector S) (omega (arith, new-many)) d.sectors (afterFat S d.sectors - d.sectors) e (omega (arith, few.1, new-many)))
+  pub count_full : d.sectors % per_sector S ≡ 0 → fat_count S (one_more S d.sectors) ≡ suc (d.sectors / per_sector S)
+  count_full e =
+      let few = after_few S d.sectors in
+      let near : d.sectors + (after_fat S d.sectors - d.sectors) ≡ after_fat S d.sectors = omega (arith, few.0) in
+      ap (fat_count S) (one_full S d.sectors e)
+      ∙ fat_suc S (after_fat S d.sectors) (omega (arith, new_many))
+      ∙ ap suc (ap (λ (n : ℕ). n / per_sector S) (sym near)
+      ∙ div_near (per_sector S) (omega (arith, new_many)) d.sectors (after_fat S d.sectors - d.sectors) e (omega (arith, few.1, new_many)))
 
-  pub count-part : d.sectors % perSector S ≢ 0 → fatCount S (oneMore S d.sectors) ≡ fatCount S d.sectors
-  count-part e =
-      let some : 1 ≤ perSector S = omega (arith, new-many) in
-      ap (fatCount S) (one-part S d.sectors e) ∙ fat-suc S d.sectors some ∙ sym (fat-part S d.sectors some e)
+  pub count_part : d.sectors % per_sector S ≢ 0 → fat_count S (one_more S d.sectors) ≡ fat_count S d.sectors
+  count_part e =
+      let some : 1 ≤ per_sector S = omega (arith, new_many) in
+      ap (fat_count S) (one_part S d.sectors e) ∙ fat_suc S d.sectors some ∙ sym (fat_part S d.sectors some e)
 
-  pub ready-kept : Kept S R (fatCount S (oneMore S d.sectors)) (difatCount S (fatCount S (oneMore S d.sectors))) d (ready S d)
-  ready-kept =
+  pub ready_kept : Kept S R (fat_count S (one_more S d.sectors)) (difat_count S (fat_count S (one_more S d.sectors))) d (ready S d)
+  ready_kept =
       ⊎_elim
-      (λ (e : d.sectors % perSector S ≡ 0). rw (count-full e, ready-full S d e) (fat-kept S R d (new-full e)))
-      (λ (e : d.sectors % perSector S ≢ 0). rw (count-part e, ready-part S d e) (kept-none S R _ _ d f.fits))
-      (same_or (d.sectors % perSector S) 0)
+      (λ (e : d.sectors % per_sector S ≡ 0). rw (count_full e, ready_full S d e) (fat_kept S R d (new_full e)))
+      (λ (e : d.sectors % per_sector S ≢ 0). rw (count_part e, ready_part S d e) (kept_none S R _ _ d f.fits))
+      (same_or (d.sectors % per_sector S) 0)
 
-  pub new-kept : Kept S R (fatCount S (oneMore S d.sectors)) (difatCount S (fatCount S (oneMore S d.sectors))) d (newSector S d)
-  unfolding newSector
-  new-kept =
-      kept_then S R _ _ _ _ d (ready S d) (newSector S d) ready-kept (λ g.
-      kept_then S R _ _ _ _ (ready S d) (pushFat S (ready S d) endOfChain) (newSector S d) (push_kept S R _ _ (ready S d) g endOfChain ready-has ready-room) (λ h.
-      init-kept S R _ _ (pushFat S (ready S d) endOfChain) h (ready S d).sectors Zero ready-room))
+  pub new_kept : Kept S R (fat_count S (one_more S d.sectors)) (difat_count S (fat_count S (one_more S d.sectors))) d (new_sector S d)
+  unfolding new_sector
+  new_kept =
+      kept_then S R _ _ _ _ d (ready S d) (new_sector S d) ready_kept (λ g.
+      kept_then S R _ _ _ _ (ready S d) (push_fat S (ready S d) end_of_chain) (new_sector S d) (push_kept S R _ _ (ready S d) g end_of_chain ready_has ready_room) (λ h.
+      init_kept S R _ _ (push_fat S (ready S d) end_of_chain) h (ready S d).sectors Zero ready_room))
 
-pub new-sectors : (S : ℕ) (d : Disk) → (newSector S d).sectors ≡ oneMore S d.sectors
-unfolding newSector store pushFat
-new-sectors S d = ready-sectors S d
+pub new_sectors : (S : ℕ) (d : Disk) → (new_sector S d).sectors ≡ one_more S d.sectors
+unfolding new_sector store push_fat
+new_sectors S d = ready_sectors S d
 
 -- the sectors that fit are as many as document 01 asks for
-whole_of : (S R n : ℕ) (d : Disk) → d.sectors ≡ n → Fits S R (fatCount S n) (difatCount S (fatCount S n)) d → FitsWhole S R d
-whole_of S R n d e f = subst (λ (m : ℕ). Fits S R (fatCount S m) (difatCount S (fatCount S m)) d) (sym e) f
+whole_of : (S R n : ℕ) (d : Disk) → d.sectors ≡ n → Fits S R (fat_count S n) (difat_count S (fat_count S n)) d → FitsWhole S R d
+whole_of S R n d e f = subst (λ (m : ℕ). Fits S R (fat_count S m) (difat_count S (fat_count S m)) d) (sym e) f
 
-pub new-fits : (S R : ℕ) (d : Disk) → FitsNew S R d → FitsWhole S R (newSector S d)
-new-fits S R d f = whole_of S R (oneMore S d.sectors) (newSector S d) (new-sectors S d) (new-kept S R d f).fits
+pub new_fits : (S R : ℕ) (d : Disk) → FitsNew S R d → FitsWhole S R (new_sector S d)
+new_fits S R d f = whole_of S R (one_more S d.sectors) (new_sector S d) (new_sectors S d) (new_kept S R d f).fits
 
-pub new-long : (S R : ℕ) (d : Disk) → FitsNew S R d → SameLong d (newSector S d)
-new-long S R d f = (new-kept S R d f).long
+pub new_long : (S R : ℕ) (d : Disk) → FitsNew S R d → SameLong d (new_sector S d)
+new_long S R d f = (new_kept S R d f).long
 
 -- an entry that is set
-pub set-fits : (S R k j : ℕ) (d : Disk) (i v : ℕ) → i / perSector S < k → Fits S R k j d → Fits S R k j (setFat S d i v)
-set-fits S R k j d i v l f = (set-kept S R k j d f i v l).fits
+pub set_fits : (S R k j : ℕ) (d : Disk) (i v : ℕ) → i / per_sector S < k → Fits S R k j d → Fits S R k j (set_fat S d i v)
+set_fits S R k j d i v l f = (set_kept S R k j d f i v l).fits
 
-pub set_long : (S R k j : ℕ) (d : Disk) (i v : ℕ) → i / perSector S < k → Fits S R k j d → SameLong d (setFat S d i v)
-set_long S R k j d i v l f = (set-kept S R k j d f i v l).long
+pub set_long : (S R k j : ℕ) (d : Disk) (i v : ℕ) → i / per_sector S < k → Fits S R k j d → SameLong d (set_fat S d i v)
+set_long S R k j d i v l f = (set_kept S R k j d f i v l).long
 
-pub entry-sector : (S R : ℕ) (d : Disk) (i : ℕ) → FitsWhole S R d → i < d.sectors → i / perSector S < fatCount S d.sectors
-entry-sector S R d i f l = fat-has S d.sectors i (omega (arith, each-many S R _ _ d f)) l
+pub entry_sector : (S R : ℕ) (d : Disk) (i : ℕ) → FitsWhole S R d → i < d.sectors → i / per_sector S < fat_count S d.sectors
+entry_sector S R d i f l = fat_has S d.sectors i (omega (arith, each_many S R _ _ d f)) l
 
-pub fats-inside : (S R k j : ℕ) (d : Disk) (p : ℕ) → Fits S R k j d → p < k → start_of S (get_or d.fats p 0) + S ≤ length d.image
-fats-inside S R k j d p f l = sectors-of-fat S R k j d f p l
+pub fats_inside : (S R k j : ℕ) (d : Disk) (p : ℕ) → Fits S R k j d → p < k → start_of S (get_or d.fats p 0) + S ≤ length d.image
+fats_inside S R k j d p f l = sectors_of_fat S R k j d f p l
 
 -- a FREE sector that is taken
-reused-kept : (S R : ℕ) (d : Disk) (id : ℕ) → id < d.sectors → FitsWhole S R d → Kept S R (fatCount S d.sectors) (difatCount S (fatCount S d.sectors)) d (reused S d id)
+reused_kept : (S R : ℕ) (d : Disk) (id : ℕ) → id < d.sectors → FitsWhole S R d → Kept S R (fat_count S d.sectors) (difat_count S (fat_count S d.sectors)) d (reused S d id)
 unfolding reused
-reused-kept S R d id l f =
-    kept_then S R _ _ _ _ d (setFat S d id endOfChain) (reused S d id) (set-kept S R _ _ d f id endOfChain (entry-sector S R d id f l)) (λ g.
-    init-kept S R _ _ (setFat S d id endOfChain) g id Zero (omega (arith, l, f.inside)))
+reused_kept S R d id l f =
+    kept_then S R _ _ _ _ d (set_fat S d id end_of_chain) (reused S d id) (set_kept S R _ _ d f id end_of_chain (entry_sector S R d id f l)) (λ g.
+    init_kept S R _ _ (set_fat S d id end_of_chain) g id Zero (omega (arith, l, f.inside)))
 
-pub reused-sectors : (S : ℕ) (d : Disk) (id : ℕ) → (reused S d id).sectors ≡ d.sectors
-unfolding reused store setFat
-reused-sectors S d id = refl
+pub reused_sectors : (S : ℕ) (d : Disk) (id : ℕ) → (reused S d id).sectors ≡ d.sectors
+unfolding reused store set_fat
+reused_sectors S d id = refl
 
-pub reused-fits : (S R : ℕ) (d : Disk) (id : ℕ) → id < d.sectors → FitsWhole S R d → FitsWhole S R (reused S d id)
-reused-fits S R d id l f = whole_of S R d.sectors (reused S d id) (reused-sectors S d id) (reused-kept S R d id l f).fits
+pub reused_fits : (S R : ℕ) (d : Disk) (id : ℕ) → id < d.sectors → FitsWhole S R d → FitsWhole S R (reused S d id)
+reused_fits S R d id l f = whole_of S R d.sectors (reused S d id) (reused_sectors S d id) (reused_kept S R d id l f).fits
 
-pub reused-long : (S R : ℕ) (d : Disk) (id : ℕ) → id < d.sectors → FitsWhole S R d → SameLong d (reused S d id)
-reused-long S R d id l f = (reused-kept S R d id l f).long
+pub reused_long : (S R : ℕ) (d : Disk) (id : ℕ) → id < d.sectors → FitsWhole S R d → SameLong d (reused S d id)
+reused_long S R d id l f = (reused_kept S R d id l f).long
 
 -- one sector more, and c more
-pub one-more-grows : (S n : ℕ) → n < oneMore S n
-one-more-grows S n =
+pub one_more_grows : (S n : ℕ) → n < one_more S n
+one_more_grows S n =
     ⊎_elim
-    (λ (e : n % perSector S ≡ 0). rw (one-full S n e) (omega (arith, (after-few S n).0)))
-    (λ (e : n % perSector S ≢ 0). rw (one-part S n e) (omega arith))
-    (same_or (n % perSector S) 0)
+    (λ (e : n % per_sector S ≡ 0). rw (one_full S n e) (omega (arith, (after_few S n).0)))
+    (λ (e : n % per_sector S ≢ 0). rw (one_part S n e) (omega arith))
+    (same_or (n % per_sector S) 0)
 
-pub count_none : (S n : ℕ) → countAfter S n 0 ≡ n
-unfolding countAfter
+pub count_none : (S n : ℕ) → count_after S n 0 ≡ n
+unfolding count_after
 count_none S n = refl
 
-pub count-more : (S n c : ℕ) → countAfter S n (suc c) ≡ countAfter S (oneMore S n) c
-unfolding countAfter
-count-more S n c = refl
+pub count_more : (S n c : ℕ) → count_after S n (suc c) ≡ count_after S (one_more S n) c
+unfolding count_after
+count_more S n c = refl
 
-pub count-grows : (S n c : ℕ) → n + c ≤ countAfter S n c
-unfolding countAfter
-count-grows S n zero = omega arith
-count-grows S n (suc c) = omega (arith, one-more-grows S n, count-grows S (oneMore S n) c)
+pub count_grows : (S n c : ℕ) → n + c ≤ count_after S n c
+unfolding count_after
+count_grows S n zero = omega arith
+count_grows S n (suc c) = omega (arith, one_more_grows S n, count_grows S (one_more S n) c)

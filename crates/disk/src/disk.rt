@@ -2,9 +2,9 @@
 ghost use Rattle.std.specs.Prelude.{◌≡◌, suc, ◌+◌, ◌-◌, ◌*◌, ◌/◌, ◌≤◌, ◌<◌, length, get_or, set};
 ghost use Rattle.lists.specs.Lists.{splice};
 ghost use Rattle.words.specs.Words.{digits};
-ghost use Rattle.sectors.specs.Sectors.{start_of, perSector};
-ghost use Rattle.fat.specs.Lists.{most, roomOf};
-ghost use Rattle.disk.specs.Disk.{entryPlace, linkPlace, appendDifat, holdPlace, listPlace, appendFat, ready, newSector, needsDifat as needsDifatOf};
+ghost use Rattle.sectors.specs.Sectors.{start_of, per_sector};
+ghost use Rattle.fat.specs.Lists.{most, room_of};
+ghost use Rattle.disk.specs.Disk.{entry_place, link_place, append_difat, hold_place, list_place, append_fat, ready, new_sector, needs_difat as needsDifatOf};
 ghost use Rattle.disk.specs.Fits.{FitsOne, FitsPlace, FitsFat, FitsNew};
 
 use fat::listed::ceil;
@@ -14,10 +14,10 @@ use sectors::init::{SectorInit, init_at, put_at};
 
 // Sets entry i of the FAT, in the table and in the image.
 pub fn set_fat(image: &mut [u8], s: usize, fat: &mut [u32], fats: &[u32], i: usize, v: u32)
-    requires s_value { (s ≡ 4 * perSector s) × (1 ≤ perSector s) }
-    requires i_in_bounds { (i < length fat.old) × (i / perSector s < length fats.now) }
-    requires s_in_bounds { start_of s (get_or fats.now (i / perSector s) 0) + s ≤ length image.old }
-    ensures { (image.new ≡ splice image.old (entryPlace s fats.now i) (digits 4 v)) × (fat.new ≡ set fat.old i v) }
+    requires s_value { (s ≡ 4 * per_sector s) × (1 ≤ per_sector s) }
+    requires i_in_bounds { (i < length fat.old) × (i / per_sector s < length fats.now) }
+    requires s_in_bounds { start_of s (get_or fats.now (i / per_sector s) 0) + s ≤ length image.old }
+    ensures { (image.new ≡ splice image.old (entry_place s fats.now i) (digits 4 v)) × (fat.new ≡ set fat.old i v) }
 {
     let each = s / 4;
     let id = fats[i / each] as usize;
@@ -27,9 +27,9 @@ pub fn set_fat(image: &mut [u8], s: usize, fat: &mut [u32], fats: &[u32], i: usi
 
 // Links DIFAT sector id from the last of j, or from the header where there is none.
 fn link_difat(image: &mut [u8], s: usize, difats: &[u32], j: usize, id: u32)
-    requires le_s { (512 ≤ s) × (s ≡ 4 * perSector s) × (s ≤ length image.old) }
+    requires le_s { (512 ≤ s) × (s ≡ 4 * per_sector s) × (s ≤ length image.old) }
     requires j_in_bounds { (j ≤ length difats.now) × (0 < j → start_of s (get_or difats.now (j - 1) 0) + s ≤ length image.old) }
-    ensures { image.new ≡ splice image.old (linkPlace s difats.now j) (digits 4 id) }
+    ensures { image.new ≡ splice image.old (link_place s difats.now j) (digits 4 id) }
 {
     if j == 0 {
         put_number(image, DIFAT, id);
@@ -49,9 +49,9 @@ fn append_difat_sector(
     difats: &mut [u32],
     j: usize,
 )
-    requires fits_one { FitsOne s (roomOf s (length image.now)) j (record { image = image.now; fat = fat.old; fats = fats.now; difats = difats.old; sectors = n }) }
+    requires fits_one { FitsOne s (room_of s (length image.now)) j (record { image = image.now; fat = fat.old; fats = fats.now; difats = difats.old; sectors = n }) }
     requires j_in_bounds { j < length difats.old }
-    ensures { record { image = image.exit.now; fat = fat.new; fats = fats.now; difats = difats.new; sectors = suc n } ≡ appendDifat s (record { image = image.entry.now; fat = fat.old; fats = fats.now; difats = difats.old; sectors = n }) j }
+    ensures { record { image = image.exit.now; fat = fat.new; fats = fats.now; difats = difats.new; sectors = suc n } ≡ append_difat s (record { image = image.entry.now; fat = fat.old; fats = fats.now; difats = difats.old; sectors = n }) j }
 {
     let id = n as u32;
     init_at(image, s, n, SectorInit::Difat);
@@ -83,8 +83,8 @@ fn hold_place(
     difats: &mut [u32],
     p: usize,
 ) -> usize
-    requires { (109 ≤ p) × FitsPlace s (roomOf s (length image.now)) p (record { image = image.now; fat = fat.old; fats = fats.now; difats = difats.old; sectors = n }) }
-    ensures { record { image = image.exit.now; fat = fat.new; fats = fats.now; difats = difats.new; sectors = result } ≡ holdPlace s (record { image = image.entry.now; fat = fat.old; fats = fats.now; difats = difats.old; sectors = n }) p }
+    requires { (109 ≤ p) × FitsPlace s (room_of s (length image.now)) p (record { image = image.now; fat = fat.old; fats = fats.now; difats = difats.old; sectors = n }) }
+    ensures { record { image = image.exit.now; fat = fat.new; fats = fats.now; difats = difats.new; sectors = result } ≡ hold_place s (record { image = image.entry.now; fat = fat.old; fats = fats.now; difats = difats.old; sectors = n }) p }
 {
     if !needs_difat(s, p) {
         return n;
@@ -104,8 +104,8 @@ fn list_place(
     p: usize,
     id: u32,
 ) -> usize
-    requires { FitsPlace s (roomOf s (length image.now)) p (record { image = image.now; fat = fat.old; fats = fats.now; difats = difats.old; sectors = n }) }
-    ensures { record { image = image.exit.now; fat = fat.new; fats = fats.now; difats = difats.new; sectors = result } ≡ listPlace s (record { image = image.entry.now; fat = fat.old; fats = fats.now; difats = difats.old; sectors = n }) p id }
+    requires { FitsPlace s (room_of s (length image.now)) p (record { image = image.now; fat = fat.old; fats = fats.now; difats = difats.old; sectors = n }) }
+    ensures { record { image = image.exit.now; fat = fat.new; fats = fats.now; difats = difats.new; sectors = result } ≡ list_place s (record { image = image.entry.now; fat = fat.old; fats = fats.now; difats = difats.old; sectors = n }) p id }
 {
     if p < 109 {
         put_place(image, p, id);
@@ -127,8 +127,8 @@ fn append_fat_sector(
     fats: &mut [u32],
     difats: &mut [u32],
 ) -> usize
-    requires { FitsFat s (roomOf s (length image.now)) (record { image = image.now; fat = fat.old; fats = fats.old; difats = difats.old; sectors = n }) }
-    ensures { record { image = image.exit.now; fat = fat.new; fats = fats.new; difats = difats.new; sectors = result } ≡ appendFat s (record { image = image.entry.now; fat = fat.old; fats = fats.old; difats = difats.old; sectors = n }) }
+    requires { FitsFat s (room_of s (length image.now)) (record { image = image.now; fat = fat.old; fats = fats.old; difats = difats.old; sectors = n }) }
+    ensures { record { image = image.exit.now; fat = fat.new; fats = fats.new; difats = difats.new; sectors = result } ≡ append_fat s (record { image = image.entry.now; fat = fat.old; fats = fats.old; difats = difats.old; sectors = n }) }
 {
     let k = n / (s / 4);
     let id = n as u32;
@@ -149,7 +149,7 @@ fn make_ready(
     fats: &mut [u32],
     difats: &mut [u32],
 ) -> usize
-    requires { FitsNew s (roomOf s (length image.now)) (record { image = image.now; fat = fat.old; fats = fats.old; difats = difats.old; sectors = n }) }
+    requires { FitsNew s (room_of s (length image.now)) (record { image = image.now; fat = fat.old; fats = fats.old; difats = difats.old; sectors = n }) }
     ensures { record { image = image.exit.now; fat = fat.new; fats = fats.new; difats = difats.new; sectors = result } ≡ ready s (record { image = image.entry.now; fat = fat.old; fats = fats.old; difats = difats.old; sectors = n }) }
 {
     if n % (s / 4) != 0 {
@@ -167,8 +167,8 @@ pub fn new_sector(
     fats: &mut [u32],
     difats: &mut [u32],
 ) -> usize
-    requires { FitsNew s (roomOf s (length image.now)) (record { image = image.now; fat = fat.old; fats = fats.old; difats = difats.old; sectors = n }) }
-    ensures { (result ≡ (ready s (record { image = image.entry.now; fat = fat.old; fats = fats.old; difats = difats.old; sectors = n })).sectors) × (record { image = image.exit.now; fat = fat.new; fats = fats.new; difats = difats.new; sectors = suc result } ≡ newSector s (record { image = image.entry.now; fat = fat.old; fats = fats.old; difats = difats.old; sectors = n })) }
+    requires { FitsNew s (room_of s (length image.now)) (record { image = image.now; fat = fat.old; fats = fats.old; difats = difats.old; sectors = n }) }
+    ensures { (result ≡ (ready s (record { image = image.entry.now; fat = fat.old; fats = fats.old; difats = difats.old; sectors = n })).sectors) × (record { image = image.exit.now; fat = fat.new; fats = fats.new; difats = difats.new; sectors = suc result } ≡ new_sector s (record { image = image.entry.now; fat = fat.old; fats = fats.old; difats = difats.old; sectors = n })) }
 {
     let id = make_ready(image, s, n, fat, fats, difats);
     set_fat(image, s, fat, fats, id, consts::END_OF_CHAIN);

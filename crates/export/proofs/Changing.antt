@@ -9,66 +9,66 @@ use Rattle.lists.specs.Lists.{choose, Below}
 use Rattle.alloc.specs.Opening.{Tables}
 use Rattle.hand.specs.Hand.{Chain}
 use Rattle.moves.specs.declared.change.Edit.{Edit}
-use Rattle.cfb.specs.Calls.{answerNo}
-use Rattle.cfb.specs.Changes.{stateFrom, tablesIn, start_in, Changes, ChainEdits}
+use Rattle.cfb.specs.Calls.{answer_no}
+use Rattle.cfb.specs.Changes.{state_from, tables_in, start_in, Changes, ChainEdits}
 use Rattle.cfb.specs.declared.State.{State}
 use Rattle.cfb.specs.declared.Called.{Called}
-use Rattle.states.specs.States.{stateWords, holds, heldIn}
-use Rattle.states.specs.Answers.{answerWords, given, heldNo}
-use Rattle.states.proofs.Again.{header-fits, state-holds}
-use Rattle.states.proofs.Telling.{number_of, words-of, zeros-given}
+use Rattle.states.specs.States.{state_words, holds, held_in}
+use Rattle.states.specs.Answers.{answer_words, given, held_no}
+use Rattle.states.proofs.Again.{header_fits, state_holds}
+use Rattle.states.proofs.Telling.{number_of_lem, words_of_lem, zeros_given}
 use Rattle.export.specs.Changes.{ChangeGives, EditChainGives}
 
 -- the number of a call on words that hold a state, and on words that hold none
-pub held_number : (words : List ℕ) (k : ℕ) → holds words ≡ true → k ≡ heldNo words k
-unfolding heldNo
+pub held_number : (words : List ℕ) (k : ℕ) → holds words ≡ true → k ≡ held_no words k
+unfolding held_no
 held_number words k h = rw h
 
-pub unheld-number : (words : List ℕ) (k : ℕ) → holds words ≡ false → 19 ≡ heldNo words k
-unfolding heldNo
-unheld-number words k h = rw h
+pub unheld_number : (words : List ℕ) (k : ℕ) → holds words ≡ false → 19 ≡ held_no words k
+unfolding held_no
+unheld_number words k h = rw h
 
 -- the words of the state after a change: a refusal leaves those that came in
-words_left : (words : List ℕ) (t : Bool) (s held : State) → stateWords held ≡ words → stateWords (choose t s held) ≡ choose t (stateWords s) words
+words_left : (words : List ℕ) (t : Bool) (s held : State) → state_words held ≡ words → state_words (choose t s held) ≡ choose t (state_words s) words
 words_left words true s held e = refl
 words_left words false s held e = e
 
 -- what a change gives on words that hold no state
-pub change-refused : (words img : List ℕ) (t : Tables) (ids : List ℕ) (k : ℕ) (after : Chain) (bytes : ℕ) (ids' : List ℕ) (b : Bool) → b ≡ holds words → b ≡ false → ids' ≡ replicate (length ids) 0
-    → ChangeGives words img t ids (heldNo words k) after bytes 19 (0 ∷ 0 ∷ 0 ∷ []) words img t ids'
-change-refused words img t ids k after bytes ids' b h none z =
-    let e : 19 ≡ heldNo words k = unheld-number words k (sym h ∙ none) in
+pub change_refused : (words img : List ℕ) (t : Tables) (ids : List ℕ) (k : ℕ) (after : Chain) (bytes : ℕ) (ids' : List ℕ) (b : Bool) → b ≡ holds words → b ≡ false → ids' ≡ replicate (length ids) 0
+    → ChangeGives words img t ids (held_no words k) after bytes 19 (0 ∷ 0 ∷ 0 ∷ []) words img t ids'
+change_refused words img t ids k after bytes ids' b h none z =
+    let e : 19 ≡ held_no words k = unheld_number words k (sym h ∙ none) in
     record {
       number = e;
-      answer = zeros-given _ _ _ ∙ ap (λ (n : ℕ). given n after.count (start_in after.ids after.count) bytes) e;
-      state = ap (λ (n : ℕ). choose (eqb n 0) (stateWords (stateFrom (heldIn words) after)) words) e;
+      answer = zeros_given _ _ _ ∙ ap (λ (n : ℕ). given n after.count (start_in after.ids after.count) bytes) e;
+      state = ap (λ (n : ℕ). choose (eqb n 0) (state_words (state_from (held_in words) after)) words) e;
       image = ap (λ (n : ℕ). choose (eqb n 0) after.hand.disk.image img) e;
-      tables = ap (λ (n : ℕ). choose (eqb n 0) (tablesIn after) t) e;
+      tables = ap (λ (n : ℕ). choose (eqb n 0) (tables_in after) t) e;
       list = z ∙ ap (λ (n : ℕ). choose (eqb n 0) after.ids (choose (eqb n 11) ids (replicate (length ids) 0))) e;
     }
 
 -- what it gives on words that hold one
-module _ (words img : List ℕ) (t : Tables) (ids : List ℕ) (s : State) (r : Called) (img' : List ℕ) (t' : Tables) (ids' : List ℕ) (b : Bool) (h : b ≡ holds words) (some : b ≡ true) (e : s ≡ heldIn words) (again : stateWords s ≡ words)
-    (no : ℕ) (told words' : List ℕ) (n : no ≡ answerNo r.answer) (w : words' ≡ stateWords r.state) (a : told ≡ answerWords r.answer) where
-  change-given : (k : ℕ) (after : Chain) (bytes : ℕ) → Changes (heldIn words) img t ids k after bytes r img' t' ids' → ChangeGives words img t ids (heldNo words k) after bytes no told words' img' t' ids'
-  change-given k after bytes says =
+module _ (words img : List ℕ) (t : Tables) (ids : List ℕ) (s : State) (r : Called) (img' : List ℕ) (t' : Tables) (ids' : List ℕ) (b : Bool) (h : b ≡ holds words) (some : b ≡ true) (e : s ≡ held_in words) (again : state_words s ≡ words)
+    (no : ℕ) (told words' : List ℕ) (n : no ≡ answer_no r.answer) (w : words' ≡ state_words r.state) (a : told ≡ answer_words r.answer) where
+  change_given : (k : ℕ) (after : Chain) (bytes : ℕ) → Changes (held_in words) img t ids k after bytes r img' t' ids' → ChangeGives words img t ids (held_no words k) after bytes no told words' img' t' ids'
+  change_given k after bytes says =
       let held : holds words ≡ true = sym h ∙ some in
-      let same : k ≡ heldNo words k = held_number words k held in
+      let same : k ≡ held_no words k = held_number words k held in
       record {
-        number = n ∙ number_of r.answer _ _ _ _ says.answer ∙ same;
-        answer = a ∙ words-of r.answer _ _ _ _ says.answer ∙ ap (λ (m : ℕ). given m after.count (start_in after.ids after.count) bytes) same;
-        state = w ∙ ap stateWords says.state ∙ words_left words (eqb k 0) (stateFrom (heldIn words) after) (heldIn words) (ap stateWords (sym e) ∙ again) ∙ ap (λ (m : ℕ). choose (eqb m 0) (stateWords (stateFrom (heldIn words) after)) words) same;
+        number = n ∙ number_of_lem r.answer _ _ _ _ says.answer ∙ same;
+        answer = a ∙ words_of_lem r.answer _ _ _ _ says.answer ∙ ap (λ (m : ℕ). given m after.count (start_in after.ids after.count) bytes) same;
+        state = w ∙ ap state_words says.state ∙ words_left words (eqb k 0) (state_from (held_in words) after) (held_in words) (ap state_words (sym e) ∙ again) ∙ ap (λ (m : ℕ). choose (eqb m 0) (state_words (state_from (held_in words) after)) words) same;
         image = says.image ∙ ap (λ (m : ℕ). choose (eqb m 0) after.hand.disk.image img) same;
-        tables = says.tables ∙ ap (λ (m : ℕ). choose (eqb m 0) (tablesIn after) t) same;
+        tables = says.tables ∙ ap (λ (m : ℕ). choose (eqb m 0) (tables_in after) t) same;
         list = says.list ∙ ap (λ (m : ℕ). choose (eqb m 0) after.ids (choose (eqb m 11) ids (replicate (length ids) 0))) same;
       }
 
-  pub edit-given : (start : ℕ) (edit : Edit) (buf : List ℕ) → ChainEdits s img t ids start edit buf r img' t' ids' → EditChainGives words img t ids start edit buf no told words' img' t' ids'
-  edit-given start edit buf says =
-      let mine : ChainEdits (heldIn words) img t ids start edit buf r img' t' ids' = rw e at says in
-      change-given _ _ _ mine
+  pub edit_given : (start : ℕ) (edit : Edit) (buf : List ℕ) → ChainEdits s img t ids start edit buf r img' t' ids' → EditChainGives words img t ids start edit buf no told words' img' t' ids'
+  edit_given start edit buf says =
+      let mine : ChainEdits (held_in words) img t ids start edit buf r img' t' ids' = rw e at says in
+      change_given _ _ _ mine
 
 -- what a change of bytes leaves in the state's words holds a state
-pub changed-holds : (s : State) (c : Chain) → Below 256 c.hand.disk.image → holds (stateWords (stateFrom s c)) ≡ true
-unfolding stateFrom
-changed-holds s c small = state-holds _ (header-fits c.hand.disk.image small)
+pub changed_holds : (s : State) (c : Chain) → Below 256 c.hand.disk.image → holds (state_words (state_from s c)) ≡ true
+unfolding state_from
+changed_holds s c small = state_holds _ (header_fits c.hand.disk.image small)

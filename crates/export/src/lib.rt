@@ -3,9 +3,9 @@
 ghost use Rattle.std.specs.Prelude.{◌≡◌, length};
 ghost use Rattle.consts.specs.Kinds.{kind_of};
 ghost use Rattle.consts.specs.Pretty.{item_at};
-ghost use Rattle.header.specs.Read.{readNo, headerLeft};
-ghost use Rattle.items.specs.Items.{kindNumber, itemNumber, itemNumbers, named_of, namedText};
-ghost use Rattle.layout.specs.Layout.{mode_of, words_of, writtenNo, bytesLeft};
+ghost use Rattle.header.specs.Read.{read_no, header_left};
+ghost use Rattle.items.specs.Items.{kind_number, item_number, item_numbers, named_of, named_text};
+ghost use Rattle.layout.specs.Layout.{mode_of, words_of, written_no, bytes_left};
 ghost use Rattle.export.specs.Opening.{OpenGives};
 ghost use Rattle.export.specs.Chains.{OpenChainGives, ReadChainGives};
 ghost use Rattle.export.specs.Changes.{EditChainGives, WriteChainGives, ResizeChainGives};
@@ -21,8 +21,8 @@ use states::{holds_state, state_in, words_of_state};
 // Reads a header: 0, or the number of the refusal; `words` then hold the header, or what stands beside the refusal. Mode 0 is permissive.
 #[unsafe(no_mangle)]
 pub extern "C" fn rasuvelk_read_header(bytes: &[u8], mode: u32, words: &mut [u32; 117]) -> u32
-    ensures value { result ≡ readNo (mode_of mode) bytes.now }
-    ensures words_after { words.new ≡ words_of (headerLeft (mode_of mode) bytes.now) }
+    ensures value { result ≡ read_no (mode_of mode) bytes.now }
+    ensures words_after { words.new ≡ words_of (header_left (mode_of mode) bytes.now) }
 {
     let read = Header::read_from(bytes, mode_of(mode));
     let header = read.header;
@@ -35,8 +35,8 @@ pub extern "C" fn rasuvelk_read_header(bytes: &[u8], mode: u32, words: &mut [u32
 // Writes a header over the first 512 bytes: 0, or the number of the refusal, which leaves every byte. A version that is none is judged first.
 #[unsafe(no_mangle)]
 pub extern "C" fn rasuvelk_write_header(words: &[u32; 117], buf: &mut [u8]) -> u32
-    ensures value { result ≡ writtenNo words.now (length buf.old) }
-    ensures buf_after { buf.new ≡ bytesLeft words.now buf.old }
+    ensures value { result ≡ written_no words.now (length buf.old) }
+    ensures buf_after { buf.new ≡ bytes_left words.now buf.old }
 {
     let numbered = Version::from_number(words[0]);
     let Numbered::Known(version) = numbered else {
@@ -269,7 +269,7 @@ pub extern "C" fn rasuvelk_free_chain(
 // The kind of an entry: 0 regular, 1 reserved, 2 DIFAT, 3 FAT, 4 END, 5 FREE.
 #[unsafe(no_mangle)]
 pub extern "C" fn rasuvelk_kind_of(entry: u32) -> u32
-    ensures { result ≡ kindNumber (kind_of entry) }
+    ensures { result ≡ kind_number (kind_of entry) }
 {
     number_of_kind(consts::kind_of(entry))
 }
@@ -277,8 +277,8 @@ pub extern "C" fn rasuvelk_kind_of(entry: u32) -> u32
 // The item that begins at `at`: its number, 0 where none does; its two numbers and the place past it are left in `item`.
 #[unsafe(no_mangle)]
 pub extern "C" fn rasuvelk_prettify(sectors: &[u32], at: usize, item: &mut [u64; 3]) -> u32
-    ensures value { result ≡ itemNumber (item_at sectors.now at) }
-    ensures item_after { item.new ≡ itemNumbers (item_at sectors.now at) }
+    ensures value { result ≡ item_number (item_at sectors.now at) }
+    ensures item_after { item.new ≡ item_numbers (item_at sectors.now at) }
 {
     let found = consts::prettify(sectors, at);
     let numbers = item_numbers(found);
@@ -289,8 +289,8 @@ pub extern "C" fn rasuvelk_prettify(sectors: &[u32], at: usize, item: &mut [u64;
 // The length of an item's text; the text is left in `out`, and zeros after it. No item has no text.
 #[unsafe(no_mangle)]
 pub extern "C" fn rasuvelk_sector_text(kind: u32, a: u64, b: u64, out: &mut [u8; 32]) -> usize
-    ensures value { result ≡ (namedText (named_of kind a b)).len }
-    ensures out_after { out.new ≡ (namedText (named_of kind a b)).bytes }
+    ensures value { result ≡ (named_text (named_of kind a b)).len }
+    ensures out_after { out.new ≡ (named_text (named_of kind a b)).bytes }
 {
     let text = named_text(item_named(kind, a, b));
     let bytes = text.bytes;

@@ -1,7 +1,7 @@
 // The lists of an image's FAT and DIFAT sectors, loaded and judged (document 01, refusal 12).
 ghost use Rattle.std.specs.Prelude.{◌≡◌, ◌+◌, ◌^◌, ◌≤◌, ◌<◌, length};
 ghost use Rattle.sectors.specs.Sectors.{Holds};
-ghost use Rattle.fat.specs.Lists.{ceil as ceilOf, countsRight, chainRight, fatsRight, difatsOf, fatsOf};
+ghost use Rattle.fat.specs.Lists.{ceil as ceilOf, counts_right, chain_right, fats_right, difats_of, fats_of};
 ghost use Rattle.fat.specs.Loaded.{Counted, ListsLoaded, Loads, Places};
 
 use crate::load::{list_difats, list_fats, rest_free};
@@ -18,7 +18,7 @@ pub fn ceil(a: usize, b: usize) -> usize
 
 // Whether the header counts k FAT sectors and d DIFAT sectors, and its list has the ids of the first.
 pub fn counts_right(h: Header, k: usize, d: usize) -> bool
-    ensures { result ≡ countsRight h k d }
+    ensures { result ≡ counts_right h k d }
 {
     if h.fats as usize != k {
         return false;
@@ -44,7 +44,7 @@ pub fn load_difats(
 ) -> bool
     requires holds { Holds s n (length image.now) }
     requires difats_len_bound { (length difats.old ≤ 65536) × (n ≤ length scratch.old) }
-    ensures { Loads (chainRight s image.now first n (length difats.old)) (difatsOf s image.now first (length difats.old)) result difats.new }
+    ensures { Loads (chain_right s image.now first n (length difats.old)) (difats_of s image.now first (length difats.old)) result difats.new }
 {
     if !list_difats(image, s, n, first, difats) {
         return false;
@@ -64,7 +64,7 @@ pub fn load_fats(
 ) -> bool
     requires places { Places s n (length image.now) list.now difats.now (length fats.old) }
     requires fats_len_bound { (length fats.old ≤ 65536) × (n ≤ length scratch.old) }
-    ensures { Loads (fatsRight s image.now n list.now difats.now (length fats.old)) (fatsOf s image.now list.now difats.now (length fats.old)) result fats.new }
+    ensures { Loads (fats_right s image.now n list.now difats.now (length fats.old)) (fats_of s image.now list.now difats.now (length fats.old)) result fats.new }
 {
     if !list_fats(image, s, n, list, difats, fats) {
         return false;

@@ -1,7 +1,7 @@
 // The lists and the FAT out of an image's bytes (MS-CFB 2.3 and 2.5; document 01, refusals 12 and 13).
 ghost use Rattle.std.specs.Prelude.{◌≡◌, ◌+◌, ◌-◌, ◌≤◌, min, length};
 ghost use Rattle.sectors.specs.Sectors.{Holds};
-ghost use Rattle.fat.specs.Lists.{ends as endsOf, placeAt, restFree, fatOf, tailFree};
+ghost use Rattle.fat.specs.Lists.{ends as endsOf, place_at, rest_free, fat_of, tail_free};
 ghost use Rattle.fat.specs.Loaded.{ChainListed, Covers, Places, PlacesListed};
 
 // Whether a pointer is END or FREE.
@@ -38,7 +38,7 @@ pub fn list_difats(image: &[u8], s: usize, n: usize, first: u32, difats: &mut [u
 // Place p of the DIFAT: in the header's list, or in a DIFAT sector.
 pub fn place_at(image: &[u8], s: usize, n: usize, list: &[u32], difats: &[u32], p: usize) -> u32
     requires { Places s n (length image.now) list.now difats.now (p + 1) }
-    ensures { result ≡ placeAt s image.now list.now difats.now p }
+    ensures { result ≡ place_at s image.now list.now difats.now p }
 {
     if p < 109 {
         return list[p];
@@ -84,7 +84,7 @@ pub fn list_fats(
 // Whether the DIFAT sectors hold FREE past the k places.
 pub fn rest_free(image: &[u8], s: usize, n: usize, list: &[u32], difats: &[u32], k: usize) -> bool
     requires { Places s n (length image.now) list.now difats.now k }
-    ensures { result ≡ restFree s image.now list.now difats.now k (length difats.now) }
+    ensures { result ≡ rest_free s image.now list.now difats.now k (length difats.now) }
 {
     let over = past_header(k);
     let count = difats.len() * (s / 4 - 1) - over;
@@ -109,7 +109,7 @@ pub fn lesser(a: usize, b: usize) -> usize
 // Loads the FAT from its sectors, a sector at a time.
 pub fn load_fat(image: &[u8], s: usize, n: usize, fats: &[u32], fat: &mut [u32])
     requires { Covers s n (length image.now) fats.now (length fat.old) }
-    ensures { fat.new ≡ fatOf s image.now fats.now (length fat.old) }
+    ensures { fat.new ≡ fat_of s image.now fats.now (length fat.old) }
 {
     let each = s / 4;
     let mut p = 0;
@@ -125,7 +125,7 @@ pub fn load_fat(image: &[u8], s: usize, n: usize, fats: &[u32], fat: &mut [u32])
 // Whether the FAT's entries from n on are FREE: they lie in its last sector.
 pub fn tail_free(image: &[u8], s: usize, n: usize, fats: &[u32]) -> bool
     requires { Covers s n (length image.now) fats.now n }
-    ensures { result ≡ tailFree s image.now fats.now n }
+    ensures { result ≡ tail_free s image.now fats.now n }
 {
     let k = fats.len();
     if k == 0 {

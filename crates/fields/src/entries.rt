@@ -2,7 +2,7 @@
 ghost use Rattle.std.specs.Prelude.{◌≡◌, ◌+◌, ◌*◌, ◌≤◌, ◌<◌, length};
 ghost use Rattle.lists.specs.Lists.{splice};
 ghost use Rattle.words.specs.Words.{digits};
-ghost use Rattle.fields.specs.Fields.{entries_at, offset_of, list_of, ids_in, allFree, idsThenFree, listBytes, unreadable as unreadableOf};
+ghost use Rattle.fields.specs.Fields.{entries_at, offset_of, list_of, ids_in, all_free, ids_then_free, list_bytes, unreadable as unreadableOf};
 
 use crate::{ENTRIES, row};
 
@@ -26,7 +26,7 @@ pub fn read_list(b: &[u8]) -> [u32; 109]
 pub fn put_list(buf: &mut [u8], list: &[u32])
     requires in_bounds { 512 ≤ length buf.old }
     requires list_len { length list.now ≡ 109 }
-    ensures { buf.new ≡ splice buf.old (offset_of entries_at) (listBytes list.now) }
+    ensures { buf.new ≡ splice buf.old (offset_of entries_at) (list_bytes list.now) }
 {
     let f = row(ENTRIES);
     let at = f.at;
@@ -64,7 +64,7 @@ pub fn leading_ids(list: &[u32]) -> usize
 
 // Whether every entry is FREE.
 pub fn all_free(list: &[u32]) -> bool
-    ensures { result ≡ allFree list.now }
+    ensures { result ≡ all_free list.now }
 {
     let mut free = true;
     let mut i = 0;
@@ -79,7 +79,7 @@ pub fn all_free(list: &[u32]) -> bool
 
 // Whether the list is sector numbers and then FREE to its end: what follows the first FREE is looked at too.
 pub fn ids_then_free(list: &[u32]) -> bool
-    ensures { result ≡ idsThenFree list.now }
+    ensures { result ≡ ids_then_free list.now }
 {
     let n = leading_ids(list);
     all_free(&list[n..])

@@ -5,7 +5,7 @@ ghost use Rattle.std.specs.Prelude.{◌≡◌, true, ◌≤◌, ◌<◌, length,
 ghost use Rattle.lists.specs.Lists.{splice, part, same_list};
 ghost use Rattle.words.specs.Words.{digits};
 ghost use Rattle.consts.specs.Consts.{signature};
-ghost use Rattle.fields.specs.Fields.{signature_at, offset_of, width_of, holdsNumber, number_at};
+ghost use Rattle.fields.specs.Fields.{signature_at, offset_of, width_of, holds_number, number_at};
 
 // A field of the header: where it begins, and how many bytes it has.
 #[derive(Drop)]
@@ -84,7 +84,7 @@ pub fn row(place: usize) -> Field
 // The number in a field of a whole header, by the field's place in the table.
 pub fn number_at(b: &[u8], place: usize) -> u32
     requires in_bounds { 512 ≤ length b.now }
-    requires place_value { holdsNumber place ≡ true }
+    requires place_value { holds_number place ≡ true }
     ensures { result ≡ number_at b.now place }
 {
     let f = row(place);
@@ -100,7 +100,7 @@ pub fn number_at(b: &[u8], place: usize) -> u32
 // Stores a number in a field, by the field's place in the table.
 pub fn put_number(buf: &mut [u8], place: usize, v: u32)
     requires in_bounds { 512 ≤ length buf.old }
-    requires place_value { holdsNumber place ≡ true }
+    requires place_value { holds_number place ≡ true }
     ensures { buf.new ≡ splice buf.old (offset_of place) (digits (width_of place) v) }
 {
     let f = row(place);

@@ -1,10 +1,10 @@
 // The moves on what is in hand: a sector taken, pointed at, linked, freed.
 ghost use Rattle.std.specs.Prelude.{◌≡◌, ℕ, ◌+◌, ◌*◌, ◌/◌, ◌≤◌, ◌<◌, List, length, get_or};
-ghost use Rattle.sectors.specs.Sectors.{start_of, perSector};
-ghost use Rattle.fat.specs.Lists.{roomOf};
+ghost use Rattle.sectors.specs.Sectors.{start_of, per_sector};
+ghost use Rattle.fat.specs.Lists.{room_of};
 ghost use Rattle.disk.specs.Disk.{reused};
 ghost use Rattle.hand.specs.Fits.{FitsStock, FitsFrees, FitsLast};
-ghost use Rattle.hand.specs.Hand.{marked, point as pointed, takenId, takeSector, freeRun, linked};
+ghost use Rattle.hand.specs.Hand.{marked, point as pointed, taken_id, take_sector, free_run, linked};
 
 use disk::disk::{new_sector, set_fat};
 use sectors::init::{SectorInit, init_at};
@@ -31,9 +31,9 @@ pub fn point(
     i: usize,
     v: u32,
 )
-    requires s_value { (s ≡ 4 * perSector s) × (1 ≤ perSector s) × (n ≤ length marks.old) }
-    requires i_in_bounds { (i < length fat.old) × (i / perSector s < length fats.now) }
-    requires s_in_bounds { start_of s (get_or fats.now (i / perSector s) 0) + s ≤ length image.old }
+    requires s_value { (s ≡ 4 * per_sector s) × (1 ≤ per_sector s) × (n ≤ length marks.old) }
+    requires i_in_bounds { (i < length fat.old) × (i / per_sector s < length fats.now) }
+    requires s_in_bounds { start_of s (get_or fats.now (i / per_sector s) 0) + s ≤ length image.old }
     ensures { (difats frees : List ℕ) (free : ℕ) → record { disk = record { image = image.exit.now; fat = fat.new; fats = fats.now; difats = difats; sectors = n }; frees = frees; free = free; marks = marks.new } ≡ pointed s (record { disk = record { image = image.entry.now; fat = fat.old; fats = fats.now; difats = difats; sectors = n }; frees = frees; free = free; marks = marks.old }) i v }
 {
     set_mark(n, marks, fat[i], 0);
@@ -51,9 +51,9 @@ pub struct Taken {
 
 // Takes FREE sector id: it becomes a chain's last one, zero.
 fn reuse(image: &mut [u8], s: usize, fat: &mut [u32], fats: &[u32], id: u32)
-    requires s_value { (s ≡ 4 * perSector s) × (1 ≤ perSector s) }
-    requires id_in_bounds { (id < length fat.old) × (id / perSector s < length fats.now) }
-    requires s_in_bounds { (start_of s (get_or fats.now (id / perSector s) 0) + s ≤ length image.old) × (start_of s id + s ≤ length image.old) }
+    requires s_value { (s ≡ 4 * per_sector s) × (1 ≤ per_sector s) }
+    requires id_in_bounds { (id < length fat.old) × (id / per_sector s < length fats.now) }
+    requires s_in_bounds { (start_of s (get_or fats.now (id / per_sector s) 0) + s ≤ length image.old) × (start_of s id + s ≤ length image.old) }
     ensures { (difats : List ℕ) → (sectors : ℕ) → record { image = image.exit.now; fat = fat.new; fats = fats.now; difats = difats; sectors = sectors } ≡ reused s (record { image = image.entry.now; fat = fat.old; fats = fats.now; difats = difats; sectors = sectors }) id }
 {
     let i = id as usize;
@@ -72,8 +72,8 @@ pub fn take_sector_id(
     difats: &mut [u32],
     frees: &mut [u32],
 ) -> Taken
-    requires { FitsStock s (roomOf s (length image.now)) (record { image = image.now; fat = fat.old; fats = fats.old; difats = difats.old; sectors = n }) frees.old free }
-    ensures { (marks : List ℕ) → (result.id ≡ takenId s (record { disk = record { image = image.entry.now; fat = fat.old; fats = fats.old; difats = difats.old; sectors = n }; frees = frees.old; free = free; marks = marks })) × (record { disk = record { image = image.exit.now; fat = fat.new; fats = fats.new; difats = difats.new; sectors = result.sectors }; frees = frees.new; free = result.free; marks = marks } ≡ takeSector s (record { disk = record { image = image.entry.now; fat = fat.old; fats = fats.old; difats = difats.old; sectors = n }; frees = frees.old; free = free; marks = marks })) }
+    requires { FitsStock s (room_of s (length image.now)) (record { image = image.now; fat = fat.old; fats = fats.old; difats = difats.old; sectors = n }) frees.old free }
+    ensures { (marks : List ℕ) → (result.id ≡ taken_id s (record { disk = record { image = image.entry.now; fat = fat.old; fats = fats.old; difats = difats.old; sectors = n }; frees = frees.old; free = free; marks = marks })) × (record { disk = record { image = image.exit.now; fat = fat.new; fats = fats.new; difats = difats.new; sectors = result.sectors }; frees = frees.new; free = result.free; marks = marks } ≡ take_sector s (record { disk = record { image = image.entry.now; fat = fat.old; fats = fats.old; difats = difats.old; sectors = n }; frees = frees.old; free = free; marks = marks })) }
 {
     if free == 0 {
         let id = new_sector(image, s, n, fat, fats, difats);
@@ -108,8 +108,8 @@ pub fn free_run(
     from: usize,
     count: usize,
 )
-    requires { (difats : List ℕ) × FitsFrees s (roomOf s (length image.now)) from count ids.now (record { disk = record { image = image.now; fat = fat.old; fats = fats.now; difats = difats; sectors = n }; frees = frees.old; free = free; marks = marks.old }) }
-    ensures { (difats : List ℕ) → record { disk = record { image = image.exit.now; fat = fat.new; fats = fats.now; difats = difats; sectors = n }; frees = frees.new; free = (free + count); marks = marks.new } ≡ freeRun s (record { disk = record { image = image.entry.now; fat = fat.old; fats = fats.now; difats = difats; sectors = n }; frees = frees.old; free = free; marks = marks.old }) ids.now from count }
+    requires { (difats : List ℕ) × FitsFrees s (room_of s (length image.now)) from count ids.now (record { disk = record { image = image.now; fat = fat.old; fats = fats.now; difats = difats; sectors = n }; frees = frees.old; free = free; marks = marks.old }) }
+    ensures { (difats : List ℕ) → record { disk = record { image = image.exit.now; fat = fat.new; fats = fats.now; difats = difats; sectors = n }; frees = frees.new; free = (free + count); marks = marks.new } ≡ free_run s (record { disk = record { image = image.entry.now; fat = fat.old; fats = fats.now; difats = difats; sectors = n }; frees = frees.old; free = free; marks = marks.old }) ids.now from count }
 {
     let mut j = 0;
     while j < count {

@@ -10,17 +10,17 @@ use lib.Dec.{eqb, leb}
 use lib.ListN.{length, get_or, drop, length-drop}
 use lib.Seq.{get_or-drop}
 use Rattle.lists.specs.Lists.{choose, both, same_list, Below}
-use Rattle.lists.specs.Rows.{test_of, ascend, byNumber, Explained, Judged}
+use Rattle.lists.specs.Rows.{test_of, ascend, by_number, Explained, Judged}
 use Rattle.lists.proofs.Exactly.{◌▸◌, exactly, accepted}
-use Rattle.lists.proofs.Cases.{below_or, same_or, true-or, not-both, both_true, both_left, both_right, either-cases, either-right, unlike}
-use Rattle.lists.proofs.Splice.{sameList-refl, sameList-false}
-use Rattle.lists.proofs.Tab.{length-tab, getD-tab}
+use Rattle.lists.proofs.Cases.{below_or, same_or, true_or, not_both, both_true, both_left, both_right, either_cases, either_right, unlike}
+use Rattle.lists.proofs.Splice.{sameList_refl, sameList_false}
+use Rattle.lists.proofs.Tab.{length_tab, getD_tab}
 use Rattle.words.proofs.Laws.{le_below}
-use Rattle.consts.specs.Consts.{maxRegular, invalidSector, endOfChain, freeSector}
-use Rattle.fields.specs.Fields.{entry_at, list_of, ids_in, allFree, idsThenFree, unreadable}
-use Rattle.header.specs.Versions.{majorOf, shift_of, versionOf, isStrict}
-use Rattle.header.specs.Read.{unknown, countsDirs, readRows, readNo, readNumber, ReadSays}
-use Rattle.header.specs.Write.{writeRows, writeNo, writeNumber, WriteSays}
+use Rattle.consts.specs.Consts.{max_regular, invalid_sector, end_of_chain, free_sector}
+use Rattle.fields.specs.Fields.{entry_at, list_of, ids_in, all_free, ids_then_free, unreadable}
+use Rattle.header.specs.Versions.{major_of, shift_of, version_of, is_strict}
+use Rattle.header.specs.Read.{unknown, counts_dirs, read_rows, read_no, read_number, ReadSays}
+use Rattle.header.specs.Write.{write_rows, write_no, write_number, WriteSays}
 use Rattle.header.specs.Causes.{Broken, GoodList, Cause, WriteCause}
 use Rattle.header.specs.declared.Version.{Version}
 use Rattle.header.specs.declared.Version.TheVariants.{V3, V4}
@@ -30,80 +30,80 @@ use Rattle.header.specs.declared.Header.{Header}
 use Rattle.header.specs.declared.ReadVerdict.{ReadVerdict}
 use Rattle.header.specs.declared.Read.{Read}
 use Rattle.header.specs.declared.WriteVerdict.{WriteVerdict}
-use Rattle.fields.proofs.Listed.{ids-within}
+use Rattle.fields.proofs.Listed.{ids_within}
 
 -- the ids that a list begins with are sector numbers
-ids-low : (xs : List ℕ) (i : ℕ) → i < ids_in xs → get_or xs i 0 ≤ maxRegular
+ids_low : (xs : List ℕ) (i : ℕ) → i < ids_in xs → get_or xs i 0 ≤ max_regular
 unfolding ids_in
-ids-low [] i h = absurd (omega arith)
-ids-low (x ∷ xs) i h = at (leb x maxRegular) refl i h (ids-low xs)
+ids_low [] i h = absurd (omega arith)
+ids_low (x ∷ xs) i h = at (leb x max_regular) refl i h (ids_low xs)
   where
-    at : (t : Bool) → leb x maxRegular ≡ t → (i : ℕ) → i < choose t (suc (ids_in xs)) 0 → ((j : ℕ) → j < ids_in xs → get_or xs j 0 ≤ maxRegular) → get_or (x ∷ xs) i 0 ≤ maxRegular
-    at true e zero h rest = leb-true x maxRegular e
+    at : (t : Bool) → leb x max_regular ≡ t → (i : ℕ) → i < choose t (suc (ids_in xs)) 0 → ((j : ℕ) → j < ids_in xs → get_or xs j 0 ≤ max_regular) → get_or (x ∷ xs) i 0 ≤ max_regular
+    at true e zero h rest = leb-true x max_regular e
     at true e (suc i) h rest = rest i (omega arith)
     at false e i h rest = absurd (omega arith)
 
 -- the entry after those ids is no sector number
-ids-high : (xs : List ℕ) → ids_in xs < length xs → maxRegular < get_or xs (ids_in xs) 0
+ids_high : (xs : List ℕ) → ids_in xs < length xs → max_regular < get_or xs (ids_in xs) 0
 unfolding ids_in
-ids-high [] h = absurd (omega arith)
-ids-high (x ∷ xs) h = at (leb x maxRegular) refl h (ids-high xs)
+ids_high [] h = absurd (omega arith)
+ids_high (x ∷ xs) h = at (leb x max_regular) refl h (ids_high xs)
   where
-    at : (t : Bool) → leb x maxRegular ≡ t → choose t (suc (ids_in xs)) 0 < suc (length xs) → (ids_in xs < length xs → maxRegular < get_or xs (ids_in xs) 0)
-        → maxRegular < get_or (x ∷ xs) (choose t (suc (ids_in xs)) 0) 0
+    at : (t : Bool) → leb x max_regular ≡ t → choose t (suc (ids_in xs)) 0 < suc (length xs) → (ids_in xs < length xs → max_regular < get_or xs (ids_in xs) 0)
+        → max_regular < get_or (x ∷ xs) (choose t (suc (ids_in xs)) 0) 0
     at true e h rest = rest (omega arith)
-    at false e h rest = leb-false x maxRegular e
+    at false e h rest = leb-false x max_regular e
 
 -- in a list that passes as FREE every entry is
-pub free-each : (xs : List ℕ) → allFree xs ≡ true → (i : ℕ) → i < length xs → get_or xs i 0 ≡ freeSector
-unfolding allFree
-free-each [] t i h = absurd (omega arith)
-free-each (x ∷ xs) t zero h = eqb-true x freeSector (both_left (eqb x freeSector) (allFree xs) t)
-free-each (x ∷ xs) t (suc i) h = free-each xs (both_right (eqb x freeSector) (allFree xs) t) i (omega arith)
+pub free_each : (xs : List ℕ) → all_free xs ≡ true → (i : ℕ) → i < length xs → get_or xs i 0 ≡ free_sector
+unfolding all_free
+free_each [] t i h = absurd (omega arith)
+free_each (x ∷ xs) t zero h = eqb-true x free_sector (both_left (eqb x free_sector) (all_free xs) t)
+free_each (x ∷ xs) t (suc i) h = free_each xs (both_right (eqb x free_sector) (all_free xs) t) i (omega arith)
 
 -- in a list that does not, some entry is not
-free-not : (xs : List ℕ) → allFree xs ≡ false → (i : ℕ) × (i < length xs) × (get_or xs i 0 ≢ freeSector)
-unfolding allFree
-free-not [] f = absurd (not-both refl f)
-free-not (x ∷ xs) f = at (eqb x freeSector) refl f (free-not xs)
+free_not : (xs : List ℕ) → all_free xs ≡ false → (i : ℕ) × (i < length xs) × (get_or xs i 0 ≢ free_sector)
+unfolding all_free
+free_not [] f = absurd (not_both refl f)
+free_not (x ∷ xs) f = at (eqb x free_sector) refl f (free_not xs)
   where
-    at : (t : Bool) → eqb x freeSector ≡ t → both t (allFree xs) ≡ false → (allFree xs ≡ false → (i : ℕ) × (i < length xs) × (get_or xs i 0 ≢ freeSector))
-        → (i : ℕ) × (i < suc (length xs)) × (get_or (x ∷ xs) i 0 ≢ freeSector)
+    at : (t : Bool) → eqb x free_sector ≡ t → both t (all_free xs) ≡ false → (all_free xs ≡ false → (i : ℕ) × (i < length xs) × (get_or xs i 0 ≢ free_sector))
+        → (i : ℕ) × (i < suc (length xs)) × (get_or (x ∷ xs) i 0 ≢ free_sector)
     at true e f rest = let r = rest f in (suc r.0, omega (arith, r.1), r.2)
-    at false e f rest = (0, omega arith, eqb-false x freeSector e)
+    at false e f rest = (0, omega arith, eqb-false x free_sector e)
 
 -- a list that passes the test is sector numbers and then FREE
-good : (xs : List ℕ) → idsThenFree xs ≡ true → GoodList xs
-unfolding idsThenFree
+good : (xs : List ℕ) → ids_then_free xs ≡ true → GoodList xs
+unfolding ids_then_free
 good xs t =
     record {
       count = ids_in xs;
-      within = ids-within xs;
-      ids = ids-low xs;
+      within = ids_within xs;
+      ids = ids_low xs;
       free = λ i g h.
           let e : ids_in xs + (i - ids_in xs) ≡ i = omega arith in
           ap (λ (k : ℕ). get_or xs k 0) (sym e) ∙ sym (get_or-drop (ids_in xs) xs (i - ids_in xs) 0)
-          ∙ free-each (drop (ids_in xs) xs) t (i - ids_in xs) (simp length-drop (omega arith));
+          ∙ free_each (drop (ids_in xs) xs) t (i - ids_in xs) (simp length-drop (omega arith));
     }
 
 -- a list that fails it is broken in one of document 01's two ways
-broken : (xs : List ℕ) → idsThenFree xs ≡ false → Broken xs
-unfolding idsThenFree
-broken xs f = at (free-not (drop (ids_in xs) xs) f)
+broken : (xs : List ℕ) → ids_then_free xs ≡ false → Broken xs
+unfolding ids_then_free
+broken xs f = at (free_not (drop (ids_in xs) xs) f)
   where
-    at : (i : ℕ) × (i < length (drop (ids_in xs) xs)) × (get_or (drop (ids_in xs) xs) i 0 ≢ freeSector) → Broken xs
+    at : (i : ℕ) × (i < length (drop (ids_in xs) xs)) × (get_or (drop (ids_in xs) xs) i 0 ≢ free_sector) → Broken xs
     at w =
         let n = ids_in xs in
         let p = n + w.0 in
         let l : p < length xs = omega (arith, length-drop n xs, w.1) in
-        let o : get_or xs p 0 ≢ freeSector = rw get_or-drop at w.2 in
+        let o : get_or xs p 0 ≢ free_sector = rw get_or-drop at w.2 in
         ⊎_elim
-        (λ (e : get_or xs n 0 ≡ freeSector).
+        (λ (e : get_or xs n 0 ≡ free_sector).
         let d : p ≢ n = λ z. o (ap (λ (k : ℕ). get_or xs k 0) z ∙ e) in
         inr (record { free = n; is_free = e; place = p; later = omega arith; within = l; other = o }))
-        (λ (d : get_or xs n 0 ≢ freeSector).
-        inl (record { place = n; within = omega arith; above = ids-high xs (omega arith); other = d; before = λ j h. omega (arith, ids-low xs j h) }))
-        (same_or (get_or xs n 0) freeSector)
+        (λ (d : get_or xs n 0 ≢ free_sector).
+        inl (record { place = n; within = omega arith; above = ids_high xs (omega arith); other = d; before = λ j h. omega (arith, ids_low xs j h) }))
+        (same_or (get_or xs n 0) free_sector)
 
 -- no list is both
 never : (xs : List ℕ) → Broken xs → GoodList xs → ⊥
@@ -113,166 +113,166 @@ never xs (inr u) g =
     ⊎_elim (λ (l : u.free < g.count). omega (arith, g.ids u.free l)) (λ (r : g.count ≤ u.free). u.other (g.free u.place (omega arith) u.within)) (below_or u.free g.count)
 
 -- a list is broken exactly when it is not some sector numbers and then FREE to its end
-pub list-exactly : (xs : List ℕ) → Broken xs ↔ (GoodList xs → ⊥)
-list-exactly xs = (never xs, λ n. ⊎_elim (λ (t : idsThenFree xs ≡ true). absurd (n (good xs t))) (broken xs) (true-or (idsThenFree xs)))
+pub list_exactly : (xs : List ℕ) → Broken xs ↔ (GoodList xs → ⊥)
+list_exactly xs = (never xs, λ n. ⊎_elim (λ (t : ids_then_free xs ≡ true). absurd (n (good xs t))) (broken xs) (true_or (ids_then_free xs)))
 
 -- every entry of a header's list is a number of four bytes
-pub entries-narrow : (b : List ℕ) → Below 256 b → (i : ℕ) → i < length (list_of b) → get_or (list_of b) i 0 < 2 ^ 32
+pub entries_narrow : (b : List ℕ) → Below 256 b → (i : ℕ) → i < length (list_of b) → get_or (list_of b) i 0 < 2 ^ 32
 unfolding list_of
-entries-narrow b small i h =
-    let low : i < 109 = rw length-tab at h in
-    rw (getD-tab (entry_at b) 109 i 0 low) (le_below 4 b _ small)
+entries_narrow b small i h =
+    let low : i < 109 = rw length_tab at h in
+    rw (getD_tab (entry_at b) 109 i 0 low) (le_below 4 b _ small)
 
 -- of four bytes, those that are neither a sector number nor FREE are document 01's 0xfffffffb to 0xfffffffe
-pub special-range : (e : ℕ) → e < 2 ^ 32 → ((maxRegular < e) × (e ≢ freeSector)) ↔ ((invalidSector ≤ e) × (e ≤ endOfChain))
-special-range e h = (λ p. omega arith, λ p. omega arith)
+pub special_range : (e : ℕ) → e < 2 ^ 32 → ((max_regular < e) × (e ≢ free_sector)) ↔ ((invalid_sector ≤ e) × (e ≤ end_of_chain))
+special_range e h = (λ p. omega arith, λ p. omega arith)
 
 -- a broken list fails the test
-broken-tested : (xs : List ℕ) → Broken xs → not (idsThenFree xs) ≡ true
-broken-tested xs w = ⊎_elim (λ (t : idsThenFree xs ≡ true). absurd (never xs w (good xs t))) (λ (f : idsThenFree xs ≡ false). rw f) (true-or (idsThenFree xs))
+broken_tested : (xs : List ℕ) → Broken xs → not (ids_then_free xs) ≡ true
+broken_tested xs w = ⊎_elim (λ (t : ids_then_free xs ≡ true). absurd (never xs w (good xs t))) (λ (f : ids_then_free xs ≡ false). rw f) (true_or (ids_then_free xs))
 
 -- and one that fails is broken
-broken-told : (xs : List ℕ) → not (idsThenFree xs) ≡ true → Broken xs
-broken-told xs t = broken xs (not-true (idsThenFree xs) t)
+broken_told : (xs : List ℕ) → not (ids_then_free xs) ≡ true → Broken xs
+broken_told xs t = broken xs (not-true (ids_then_free xs) t)
 
 -- the test that two numbers differ says so
 pub differ : (a b : ℕ) → not (eqb a b) ≡ true → a ≢ b
 differ a b t = eqb-false a b (not-true (eqb a b) t)
 
 -- the test that two lists differ says so
-differ-lists : (xs ys : List ℕ) → not (same_list xs ys) ≡ true → xs ≢ ys
-differ-lists xs ys t e = let same : same_list xs ys ≡ true = rw e (sameList-refl ys) in not-both same (not-true (same_list xs ys) t)
+differ_lists : (xs ys : List ℕ) → not (same_list xs ys) ≡ true → xs ≢ ys
+differ_lists xs ys t e = let same : same_list xs ys ≡ true = rw e (sameList_refl ys) in not_both same (not-true (same_list xs ys) t)
 
 -- an unknown major version is neither 3 nor 4
-unknown-told : (n : ℕ) → unknown n ≡ true → (n ≢ 3) × (n ≢ 4)
+unknown_told : (n : ℕ) → unknown n ≡ true → (n ≢ 3) × (n ≢ 4)
 unfolding unknown
-unknown-told n t = (differ n 3 (both_left (not (eqb n 3)) _ t), differ n 4 (both_right (not (eqb n 3)) _ t))
+unknown_told n t = (differ n 3 (both_left (not (eqb n 3)) _ t), differ n 4 (both_right (not (eqb n 3)) _ t))
 
 -- a known one is 3 or 4
 known : (n : ℕ) → unknown n ≡ false → (n ≡ 3) ⊎ (n ≡ 4)
 unfolding unknown
 known n f =
-    ⊎_elim inl (λ (a : n ≢ 3). ⊎_elim inr (λ (o : n ≢ 4). absurd (not-both (both_true (unlike n 3 a) (unlike n 4 o)) f)) (same_or n 4)) (same_or n 3)
+    ⊎_elim inl (λ (a : n ≢ 3). ⊎_elim inr (λ (o : n ≢ 4). absurd (not_both (both_true (unlike n 3 a) (unlike n 4 o)) f)) (same_or n 4)) (same_or n 3)
 
 -- a known version with another shift than its own
-shift-told : (major shift : ℕ) → unknown major ≡ false → not (eqb shift (shift_of (versionOf major))) ≡ true
+shift_told : (major shift : ℕ) → unknown major ≡ false → not (eqb shift (shift_of (version_of major))) ≡ true
     → ((major ≡ 3) × (shift ≢ 9)) ⊎ ((major ≡ 4) × (shift ≢ 12))
-unfolding versionOf
-shift-told major shift f t =
+unfolding version_of
+shift_told major shift f t =
     ⊎_elim (λ (e : major ≡ 3). inl (e, differ shift 9 (rw e at t))) (λ (e : major ≡ 4). inr (e, differ shift 12 (rw e at t))) (known major f)
 
 -- strict is the one mode that insists
-pub strict : (m : Validation) → isStrict m ≡ true → m ≡ Strict
-strict Permissive t = absurd (not-both t refl)
+pub strict : (m : Validation) → is_strict m ≡ true → m ≡ Strict
+strict Permissive t = absurd (not_both t refl)
 strict Strict t = refl
 
 -- version 3 is the one whose number is 3
-version-3 : (v : Version) → majorOf v ≡ 3 → v ≡ V3
-version-3 V3 e = refl
-version-3 V4 e = absurd (omega arith)
+version_3 : (v : Version) → major_of v ≡ 3 → v ≡ V3
+version_3 V3 e = refl
+version_3 V4 e = absurd (omega arith)
 
 -- strict, version 3 and directory sectors counted make the test hold
-dirs-tested : (m : Validation) (major dirs : ℕ) → m ≡ Strict → major ≡ 3 → dirs ≢ 0 → countsDirs m major dirs ≡ true
-unfolding countsDirs
-dirs-tested m major dirs s e n = rw (s, e) (unlike dirs 0 n)
+dirs_tested : (m : Validation) (major dirs : ℕ) → m ≡ Strict → major ≡ 3 → dirs ≢ 0 → counts_dirs m major dirs ≡ true
+unfolding counts_dirs
+dirs_tested m major dirs s e n = rw (s, e) (unlike dirs 0 n)
 
 -- and where it holds, it is for these
-dirs-told : (m : Validation) (major dirs : ℕ) → countsDirs m major dirs ≡ true → (m ≡ Strict) × (major ≡ 3) × (dirs ≢ 0)
-unfolding countsDirs
-dirs-told m major dirs t =
-    let r : both (eqb major 3) (not (eqb dirs 0)) ≡ true = both_right (isStrict m) _ t in
-    (strict m (both_left (isStrict m) _ t), eqb-true major 3 (both_left (eqb major 3) _ r), differ dirs 0 (both_right (eqb major 3) _ r))
+dirs_told : (m : Validation) (major dirs : ℕ) → counts_dirs m major dirs ≡ true → (m ≡ Strict) × (major ≡ 3) × (dirs ≢ 0)
+unfolding counts_dirs
+dirs_told m major dirs t =
+    let r : both (eqb major 3) (not (eqb dirs 0)) ≡ true = both_right (is_strict m) _ t in
+    (strict m (both_left (is_strict m) _ t), eqb-true major 3 (both_left (eqb major 3) _ r), differ dirs 0 (both_right (eqb major 3) _ r))
 
 module _ (m : Validation) (b : List ℕ) where
   -- each of the reader's causes makes the test of its row hold
-  pub read-tested : (k : ℕ) → Cause m b k → test_of (readRows m b) k ≡ true
-  unfolding test_of readRows unknown versionOf
-  read-tested k (Cause.short h) = lt-ltb _ _ h
-  read-tested k (Cause.unsigned n) = rw (sameList-false _ _ n)
-  read-tested k (Cause.order n) = unlike _ _ n
-  read-tested k (Cause.major n o) = both_true (unlike _ _ n) (unlike _ _ o)
-  read-tested k (Cause.shift-3 e n) = rw e (unlike _ _ n)
-  read-tested k (Cause.shift-4 e n) = rw e (unlike _ _ n)
-  read-tested k (Cause.mini n) = unlike _ _ n
-  read-tested k (Cause.dirs s e n) = dirs-tested _ _ _ s e n
-  read-tested k (Cause.cutoff n) = unlike _ _ n
-  read-tested k (Cause.list w) = broken-tested (list_of b) w
+  pub read_tested : (k : ℕ) → Cause m b k → test_of (read_rows m b) k ≡ true
+  unfolding test_of read_rows unknown version_of
+  read_tested k (Cause.short h) = lt-ltb _ _ h
+  read_tested k (Cause.unsigned n) = rw (sameList_false _ _ n)
+  read_tested k (Cause.order n) = unlike _ _ n
+  read_tested k (Cause.major n o) = both_true (unlike _ _ n) (unlike _ _ o)
+  read_tested k (Cause.shift_3 e n) = rw e (unlike _ _ n)
+  read_tested k (Cause.shift_4 e n) = rw e (unlike _ _ n)
+  read_tested k (Cause.mini n) = unlike _ _ n
+  read_tested k (Cause.dirs s e n) = dirs_tested _ _ _ s e n
+  read_tested k (Cause.cutoff n) = unlike _ _ n
+  read_tested k (Cause.list w) = broken_tested (list_of b) w
 
   -- the first of the reader's tests that holds has its cause
-  pub read_told : Explained (Cause m b) (readRows m b)
-  unfolding readRows
+  pub read_told : Explained (Cause m b) (read_rows m b)
+  unfolding read_rows
   read_told =
       (λ t. Cause.short (ltb-true _ _ t)) ▸ λ f1.
-      (λ t. Cause.unsigned (differ-lists _ _ t)) ▸ λ f2.
+      (λ t. Cause.unsigned (differ_lists _ _ t)) ▸ λ f2.
       (λ t. Cause.order (differ _ _ t)) ▸ λ f3.
-      (λ t. let n = unknown-told _ t in Cause.major n.0 n.1) ▸ λ f4.
-      (λ t. ⊎_elim (λ w. Cause.shift-3 w.0 w.1) (λ w. Cause.shift-4 w.0 w.1) (shift-told _ _ f4 t)) ▸ λ f5.
+      (λ t. let n = unknown_told _ t in Cause.major n.0 n.1) ▸ λ f4.
+      (λ t. ⊎_elim (λ w. Cause.shift_3 w.0 w.1) (λ w. Cause.shift_4 w.0 w.1) (shift_told _ _ f4 t)) ▸ λ f5.
       (λ t. Cause.mini (differ _ _ t)) ▸ λ f6.
-      (λ t. let d = dirs-told m _ _ t in Cause.dirs d.0 d.1 d.2) ▸ λ f7.
+      (λ t. let d = dirs_told m _ _ t in Cause.dirs d.0 d.1 d.2) ▸ λ f7.
       (λ t. Cause.cutoff (differ _ _ t)) ▸ λ f8.
-      (λ t. Cause.list (broken-told (list_of b) t)) ▸ λ f9. tt
+      (λ t. Cause.list (broken_told (list_of b) t)) ▸ λ f9. tt
 
   -- the reader's table judges by the reader's causes
-  read-judged : Judged byNumber (readRows m b) (Cause m b)
-  unfolding ascend readRows
-  read-judged = record { none = refl; ascends = refl; tested = read-tested; told = read_told }
+  read_judged : Judged by_number (read_rows m b) (Cause m b)
+  unfolding ascend read_rows
+  read_judged = record { none = refl; ascends = refl; tested = read_tested; told = read_told }
 
   -- document 01: each number is given exactly when its cause holds and none before it does
-  pub read-exactly : (k : ℕ) → 1 ≤ k → (readNo m b ≡ k) ↔ (Cause m b k × ((j : ℕ) → j < k → Cause m b j → ⊥))
-  unfolding readNo
-  read-exactly = exactly read-judged
+  pub read_exactly : (k : ℕ) → 1 ≤ k → (read_no m b ≡ k) ↔ (Cause m b k × ((j : ℕ) → j < k → Cause m b j → ⊥))
+  unfolding read_no
+  read_exactly = exactly read_judged
 
   -- a header is read exactly when nothing stands against it
-  pub read-accepts : (readNo m b ≡ 0) ↔ ((j : ℕ) → Cause m b j → ⊥)
-  unfolding readNo
-  read-accepts = accepted read-judged
+  pub read_accepts : (read_no m b ≡ 0) ↔ ((j : ℕ) → Cause m b j → ⊥)
+  unfolding read_no
+  read_accepts = accepted read_judged
 
 module _ (h : Header) (n : ℕ) where
   -- each of the writer's causes makes the test of its row hold
-  write-tested : (k : ℕ) → WriteCause h n k → test_of (writeRows h n) k ≡ true
-  unfolding test_of writeRows unreadable
-  write-tested k (WriteCause.no_room l) = lt-ltb _ _ l
-  write-tested k (WriteCause.counted v d) = dirs-tested Strict _ _ refl (ap majorOf v) d
-  write-tested k (WriteCause.no-list w) = rw (broken-tested h.list w)
-  write-tested k (WriteCause.free-start e) = either-right (not (idsThenFree h.list)) _ (eq-eqb _ _ e)
+  write_tested : (k : ℕ) → WriteCause h n k → test_of (write_rows h n) k ≡ true
+  unfolding test_of write_rows unreadable
+  write_tested k (WriteCause.no_room l) = lt-ltb _ _ l
+  write_tested k (WriteCause.counted v d) = dirs_tested Strict _ _ refl (ap major_of v) d
+  write_tested k (WriteCause.no_list w) = rw (broken_tested h.list w)
+  write_tested k (WriteCause.free_start e) = either_right (not (ids_then_free h.list)) _ (eq-eqb _ _ e)
 
   -- the first of the writer's tests that holds has its cause
-  write-told : Explained (WriteCause h n) (writeRows h n)
-  unfolding writeRows unreadable
-  write-told =
+  write_told : Explained (WriteCause h n) (write_rows h n)
+  unfolding write_rows unreadable
+  write_told =
       (λ t. WriteCause.no_room (ltb-true _ _ t)) ▸ λ f1.
-      (λ t. let d = dirs-told Strict _ _ t in WriteCause.counted (version-3 _ d.1) d.2) ▸ λ f2.
-      (λ t. ⊎_elim (λ l. WriteCause.no-list (broken-told h.list l)) (λ e. WriteCause.free-start (eqb-true _ _ e)) (either-cases _ _ t)) ▸ λ f3. tt
+      (λ t. let d = dirs_told Strict _ _ t in WriteCause.counted (version_3 _ d.1) d.2) ▸ λ f2.
+      (λ t. ⊎_elim (λ l. WriteCause.no_list (broken_told h.list l)) (λ e. WriteCause.free_start (eqb-true _ _ e)) (either_cases _ _ t)) ▸ λ f3. tt
 
   -- the writer's table judges by the writer's causes
-  write-judged : Judged byNumber (writeRows h n) (WriteCause h n)
-  unfolding ascend writeRows
-  write-judged = record { none = refl; ascends = refl; tested = write-tested; told = write-told }
+  write_judged : Judged by_number (write_rows h n) (WriteCause h n)
+  unfolding ascend write_rows
+  write_judged = record { none = refl; ascends = refl; tested = write_tested; told = write_told }
 
   -- document 01: the writer's numbers, in the order 1, 7, 9
-  pub write-exactly : (k : ℕ) → 1 ≤ k → (writeNo h n ≡ k) ↔ (WriteCause h n k × ((j : ℕ) → j < k → WriteCause h n j → ⊥))
-  unfolding writeNo
-  write-exactly = exactly write-judged
+  pub write_exactly : (k : ℕ) → 1 ≤ k → (write_no h n ≡ k) ↔ (WriteCause h n k × ((j : ℕ) → j < k → WriteCause h n j → ⊥))
+  unfolding write_no
+  write_exactly = exactly write_judged
 
   -- a header is written exactly when nothing stands against it
-  pub write-accepts : (writeNo h n ≡ 0) ↔ ((j : ℕ) → WriteCause h n j → ⊥)
-  unfolding writeNo
-  write-accepts = accepted write-judged
+  pub write_accepts : (write_no h n ≡ 0) ↔ ((j : ℕ) → WriteCause h n j → ⊥)
+  unfolding write_no
+  write_accepts = accepted write_judged
 
 -- what can be had back from its number is told apart by it
-told-apart : {A : Type 0} (number : A → ℕ) (back : ℕ → A) → ((v : A) → back (number v) ≡ v) → (v w : A) → number v ≡ number w → v ≡ w
-told-apart number back same v w e = sym (same v) ∙ ap back e ∙ same w
+told_apart : {A : Type 0} (number : A → ℕ) (back : ℕ → A) → ((v : A) → back (number v) ≡ v) → (v w : A) → number v ≡ number w → v ≡ w
+told_apart number back same v w e = sym (same v) ∙ ap back e ∙ same w
 
 -- two answers of the reader with one number are one answer
-read-apart : (v w : ReadVerdict) → readNumber v ≡ readNumber w → v ≡ w
-read-apart = told-apart readNumber answer same
+read_apart : (v w : ReadVerdict) → read_number v ≡ read_number w → v ≡ w
+read_apart = told_apart read_number answer same
   where
     answer : ℕ → ReadVerdict
     answer n =
         get_or (ReadVerdict.Accepted ∷ ReadVerdict.Short ∷ ReadVerdict.Signature ∷ ReadVerdict.ByteOrder ∷ ReadVerdict.Major ∷ ReadVerdict.SectorShift
         ∷ ReadVerdict.MiniShift ∷ ReadVerdict.Directories ∷ ReadVerdict.Cutoff ∷ ReadVerdict.Entries ∷ []) n ReadVerdict.Accepted
 
-    same : (v : ReadVerdict) → answer (readNumber v) ≡ v
+    same : (v : ReadVerdict) → answer (read_number v) ≡ v
     same ReadVerdict.Accepted = refl
     same ReadVerdict.Short = refl
     same ReadVerdict.Signature = refl
@@ -285,25 +285,25 @@ read-apart = told-apart readNumber answer same
     same ReadVerdict.Entries = refl
 
 -- two answers of the writer with one number are one answer
-write-apart : (v w : WriteVerdict) → writeNumber v ≡ writeNumber w → v ≡ w
-write-apart = told-apart writeNumber answer same
+write_apart : (v w : WriteVerdict) → write_number v ≡ write_number w → v ≡ w
+write_apart = told_apart write_number answer same
   where
     answer : ℕ → WriteVerdict
     answer n = choose (eqb n 1) WriteVerdict.Short (choose (eqb n 7) WriteVerdict.Directories (choose (eqb n 9) WriteVerdict.Entries WriteVerdict.Written))
 
-    same : (v : WriteVerdict) → answer (writeNumber v) ≡ v
+    same : (v : WriteVerdict) → answer (write_number v) ≡ v
     same WriteVerdict.Written = refl
     same WriteVerdict.Short = refl
     same WriteVerdict.Directories = refl
     same WriteVerdict.Entries = refl
 
 -- any two results that the reader's contract permits are the same
-pub read-unique : (b : List ℕ) (m : Validation) (r s : Read) → ReadSays b m r → ReadSays b m s → r ≡ s
-read-unique b m r s p q =
-    let v : r.verdict ≡ s.verdict = read-apart _ _ (p.number ∙ sym q.number) in
+pub read_unique : (b : List ℕ) (m : Validation) (r s : Read) → ReadSays b m r → ReadSays b m s → r ≡ s
+read_unique b m r s p q =
+    let v : r.verdict ≡ s.verdict = read_apart _ _ (p.number ∙ sym q.number) in
     let h : r.header ≡ s.header = p.header ∙ sym q.header in
     λ i. record { verdict = v i; header = h i }
 
 -- any two results that the writer's contract permits are the same, answer and buffer
-pub write-unique : (h : Header) (b after after' : List ℕ) (v w : WriteVerdict) → WriteSays h b after v → WriteSays h b after' w → (after ≡ after') × (v ≡ w)
-write-unique h b after after' v w p q = (p.buffer ∙ sym q.buffer, write-apart v w (p.number ∙ sym q.number))
+pub write_unique : (h : Header) (b after after' : List ℕ) (v w : WriteVerdict) → WriteSays h b after v → WriteSays h b after' w → (after ≡ after') × (v ≡ w)
+write_unique h b after after' v w p q = (p.buffer ∙ sym q.buffer, write_apart v w (p.number ∙ sym q.number))

@@ -2,9 +2,9 @@
 use Rattle.std.specs.Prelude.{ℕ, ◌≡◌, Bool, not, List, [], ◌∷◌, ◌++◌, eqb, ltb, length, replicate}
 use Rattle.lists.specs.Lists.{choose, both, part, same_list}
 use Rattle.lists.specs.Rows.{Row, row, refusal}
-use Rattle.consts.specs.Consts.{signature, byteOrder, miniShift, miniCutoff, endOfChain, freeSector}
-use Rattle.fields.specs.Fields.{majorAt, order_at, shiftAt, miniAt, dirsAt, fatsAt, dirAt, cutoffAt, minifatAt, minifatsAt, difatAt, difatsAt, number_at, list_of, idsThenFree}
-use Rattle.header.specs.Versions.{isStrict, versionOf, shift_of}
+use Rattle.consts.specs.Consts.{signature, byte_order, mini_shift, mini_cutoff, end_of_chain, free_sector}
+use Rattle.fields.specs.Fields.{major_at, order_at, shift_at, mini_at, dirs_at, fats_at, dir_at, cutoff_at, minifat_at, minifats_at, difat_at, difats_at, number_at, list_of, ids_then_free}
+use Rattle.header.specs.Versions.{is_strict, version_of, shift_of}
 use Rattle.header.specs.declared.Version.TheVariants.{V3}
 use Rattle.header.specs.declared.Validation.{Validation}
 use Rattle.header.specs.declared.judge.Fixed.{Fixed}
@@ -14,28 +14,28 @@ use Rattle.header.specs.declared.ReadVerdict.TheVariants.{Accepted, Short, Signa
 use Rattle.header.specs.declared.Read.{Read}
 
 -- document 01's number for each case of the answer; an acceptance has 0
-abbrev pub readNumber : ReadVerdict → ℕ
-readNumber Accepted = 0
-readNumber Short = 1
-readNumber Signature = 2
-readNumber ByteOrder = 3
-readNumber Major = 4
-readNumber SectorShift = 5
-readNumber MiniShift = 6
-readNumber Directories = 7
-readNumber Cutoff = 8
-readNumber Entries = 9
+abbrev pub read_number : ReadVerdict → ℕ
+read_number Accepted = 0
+read_number Short = 1
+read_number Signature = 2
+read_number ByteOrder = 3
+read_number Major = 4
+read_number SectorShift = 5
+read_number MiniShift = 6
+read_number Directories = 7
+read_number Cutoff = 8
+read_number Entries = 9
 
 -- the numbers that a header is judged by
 unfoldable pub fixed_of : List ℕ → Fixed
 fixed_of b =
     record {
       order = number_at b order_at;
-      major = number_at b majorAt;
-      shift = number_at b shiftAt;
-      mini = number_at b miniAt;
-      dirs = number_at b dirsAt;
-      cutoff = number_at b cutoffAt;
+      major = number_at b major_at;
+      shift = number_at b shift_at;
+      mini = number_at b mini_at;
+      dirs = number_at b dirs_at;
+      cutoff = number_at b cutoff_at;
     }
 
 -- major version neither 3 nor 4
@@ -43,57 +43,57 @@ unfoldable pub unknown : ℕ → Bool
 unknown n = both (not (eqb n 3)) (not (eqb n 4))
 
 -- strict, version 3, directory sectors not 0
-unfoldable pub countsDirs : Validation → ℕ → ℕ → Bool
-countsDirs m major dirs = both (isStrict m) (both (eqb major 3) (not (eqb dirs 0)))
+unfoldable pub counts_dirs : Validation → ℕ → ℕ → Bool
+counts_dirs m major dirs = both (is_strict m) (both (eqb major 3) (not (eqb dirs 0)))
 
 -- document 01's rows 3 to 8, which those numbers decide
-unfoldable pub fixedRows : Validation → Fixed → List Row
-fixedRows m f =
-    row 3 (not (eqb f.order byteOrder))
+unfoldable pub fixed_rows : Validation → Fixed → List Row
+fixed_rows m f =
+    row 3 (not (eqb f.order byte_order))
     ∷ row 4 (unknown f.major)
-    ∷ row 5 (not (eqb f.shift (shift_of (versionOf f.major))))
-    ∷ row 6 (not (eqb f.mini miniShift))
-    ∷ row 7 (countsDirs m f.major f.dirs)
-    ∷ row 8 (not (eqb f.cutoff miniCutoff))
+    ∷ row 5 (not (eqb f.shift (shift_of (version_of f.major))))
+    ∷ row 6 (not (eqb f.mini mini_shift))
+    ∷ row 7 (counts_dirs m f.major f.dirs)
+    ∷ row 8 (not (eqb f.cutoff mini_cutoff))
     ∷ []
 
 -- document 01's rows 2 to 9, which the first 512 bytes decide
-unfoldable pub headerRows : Validation → List ℕ → List Row
-unfolding fixedRows fixed_of
-headerRows m b =
+unfoldable pub header_rows : Validation → List ℕ → List Row
+unfolding fixed_rows fixed_of
+header_rows m b =
     row 2 (not (same_list (part b 0 8) signature))
-    ∷ (fixedRows m (fixed_of b) ++ (row 9 (not (idsThenFree (list_of b))) ∷ []))
+    ∷ (fixed_rows m (fixed_of b) ++ (row 9 (not (ids_then_free (list_of b))) ∷ []))
 
 -- document 01's rows 1 to 9, for the reader alone
-unfoldable pub readRows : Validation → List ℕ → List Row
-unfolding headerRows
-readRows m b = row 1 (ltb (length b) 512) ∷ headerRows m b
+unfoldable pub read_rows : Validation → List ℕ → List Row
+unfolding header_rows
+read_rows m b = row 1 (ltb (length b) 512) ∷ header_rows m b
 
 -- the number that a reading ends with
-unfoldable pub readNo : Validation → List ℕ → ℕ
-unfolding readRows
-readNo m b = refusal (readRows m b)
+unfoldable pub read_no : Validation → List ℕ → ℕ
+unfolding read_rows
+read_no m b = refusal (read_rows m b)
 
 -- MS-CFB 2.2, Number of Directory Sectors: not kept in version 3
-unfoldable pub dirsOf : ℕ → ℕ → ℕ
-dirsOf major dirs = choose (eqb major 3) 0 dirs
+unfoldable pub dirs_of : ℕ → ℕ → ℕ
+dirs_of major dirs = choose (eqb major 3) 0 dirs
 
 -- document 01: a first DIFAT sector of FREE is read as END
-unfoldable pub endIfFree : ℕ → ℕ
-endIfFree n = choose (eqb n freeSector) endOfChain n
+unfoldable pub end_if_free : ℕ → ℕ
+end_if_free n = choose (eqb n free_sector) end_of_chain n
 
 -- MS-CFB 2.2: the content of a header
-unfoldable pub headerOf : List ℕ → Header
-headerOf b =
+unfoldable pub header_of : List ℕ → Header
+header_of b =
     record {
-      version = versionOf (number_at b majorAt);
-      dirs = dirsOf (number_at b majorAt) (number_at b dirsAt);
-      fats = number_at b fatsAt;
-      dir = number_at b dirAt;
-      minifat = number_at b minifatAt;
-      minifats = number_at b minifatsAt;
-      difat = endIfFree (number_at b difatAt);
-      difats = number_at b difatsAt;
+      version = version_of (number_at b major_at);
+      dirs = dirs_of (number_at b major_at) (number_at b dirs_at);
+      fats = number_at b fats_at;
+      dir = number_at b dir_at;
+      minifat = number_at b minifat_at;
+      minifats = number_at b minifats_at;
+      difat = end_if_free (number_at b difat_at);
+      difats = number_at b difats_at;
       list = list_of b;
     }
 
@@ -102,10 +102,10 @@ unfoldable pub none : Header
 none = record { version = V3; dirs = 0; fats = 0; dir = 0; minifat = 0; minifats = 0; difat = 0; difats = 0; list = replicate 109 0 }
 
 -- document 01: the header that a reading leaves: the content, or what stands beside a refusal
-abbrev pub headerLeft : Validation → List ℕ → Header
-headerLeft m b = choose (eqb (readNo m b) 0) (headerOf b) none
+abbrev pub header_left : Validation → List ℕ → Header
+header_left m b = choose (eqb (read_no m b) 0) (header_of b) none
 
 -- what the reader says of b: document 01's number, and the header beside it
 pub record ReadSays (b : List ℕ) (m : Validation) (r : Read) : Type 0 where
-  pub number : readNumber r.verdict ≡ readNo m b
-  pub header : r.header ≡ headerLeft m b
+  pub number : read_number r.verdict ≡ read_no m b
+  pub header : r.header ≡ header_left m b

@@ -9,9 +9,9 @@ use Rattle.header.specs.declared.Validation.{Validation}
 use Rattle.header.specs.declared.Validation.TheVariants.{Permissive, Strict}
 
 -- MS-CFB 2.2, Major Version: 3 or 4
-abbrev pub majorOf : Version → ℕ
-majorOf V3 = 3
-majorOf V4 = 4
+abbrev pub major_of : Version → ℕ
+major_of V3 = 3
+major_of V4 = 4
 
 -- MS-CFB 2.2, Sector Shift: 9 in version 3, 12 in version 4
 abbrev pub shift_of : Version → ℕ
@@ -24,14 +24,14 @@ length_of V3 = 512
 length_of V4 = 4096
 
 -- the version of a major version number, if there is one
-unfoldable pub numberedOf : ℕ → Numbered
-numberedOf n = choose (eqb n 3) (Known V3) (choose (eqb n 4) (Known V4) Unknown)
+unfoldable pub numbered_of : ℕ → Numbered
+numbered_of n = choose (eqb n 3) (Known V3) (choose (eqb n 4) (Known V4) Unknown)
 
 -- the version of a header whose major version is 3 or 4
-unfoldable pub versionOf : ℕ → Version
-versionOf n = choose (eqb n 4) V4 V3
+unfoldable pub version_of : ℕ → Version
+version_of n = choose (eqb n 4) V4 V3
 
 -- strict insists on every rule
-abbrev pub isStrict : Validation → Bool
-isStrict Permissive = false
-isStrict Strict = true
+abbrev pub is_strict : Validation → Bool
+is_strict Permissive = false
+is_strict Strict = true

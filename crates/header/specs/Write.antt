@@ -3,10 +3,10 @@ use Rattle.std.specs.Prelude.{ℕ, ◌^◌, ◌<◌, ◌≡◌, List, [], ◌∷
 use Rattle.lists.specs.Lists.{choose, splice, Below}
 use Rattle.lists.specs.Rows.{Row, row, refusal}
 use Rattle.words.specs.Words.{digits}
-use Rattle.consts.specs.Consts.{signature, minorVersion, byteOrder, miniShift, miniCutoff}
-use Rattle.fields.specs.Fields.{listBytes, unreadable}
-use Rattle.header.specs.Versions.{majorOf, shift_of}
-use Rattle.header.specs.Read.{countsDirs}
+use Rattle.consts.specs.Consts.{signature, minor_version, byte_order, mini_shift, mini_cutoff}
+use Rattle.fields.specs.Fields.{list_bytes, unreadable}
+use Rattle.header.specs.Versions.{major_of, shift_of}
+use Rattle.header.specs.Read.{counts_dirs}
 use Rattle.header.specs.declared.Version.{Version}
 use Rattle.header.specs.declared.Validation.TheVariants.{Strict}
 use Rattle.header.specs.declared.Header.{Header}
@@ -14,48 +14,48 @@ use Rattle.header.specs.declared.WriteVerdict.{WriteVerdict}
 use Rattle.header.specs.declared.WriteVerdict.TheVariants.{Written, Short, Directories, Entries}
 
 -- document 01's number for each case of the answer; a header that is written has 0
-abbrev pub writeNumber : WriteVerdict → ℕ
-writeNumber Written = 0
-writeNumber Short = 1
-writeNumber Directories = 7
-writeNumber Entries = 9
+abbrev pub write_number : WriteVerdict → ℕ
+write_number Written = 0
+write_number Short = 1
+write_number Directories = 7
+write_number Entries = 9
 
 -- document 01: the writer's refusals, of h into n lent bytes
-unfoldable pub writeRows : Header → ℕ → List Row
-writeRows h n =
+unfoldable pub write_rows : Header → ℕ → List Row
+write_rows h n =
     row 1 (ltb n 512)
-    ∷ row 7 (countsDirs Strict (majorOf h.version) h.dirs)
+    ∷ row 7 (counts_dirs Strict (major_of h.version) h.dirs)
     ∷ row 9 (unreadable h.list h.difat)
     ∷ []
 
 -- the number that a writing ends with
-unfoldable pub writeNo : Header → ℕ → ℕ
-unfolding writeRows
-writeNo h n = refusal (writeRows h n)
+unfoldable pub write_no : Header → ℕ → ℕ
+unfolding write_rows
+write_no h n = refusal (write_rows h n)
 
 -- MS-CFB 2.2, the first 40 bytes: signature, class, minor and major version, byte order, the two shifts, reserved
-unfoldable pub startBytes : Version → List ℕ
-startBytes v =
+unfoldable pub start_bytes : Version → List ℕ
+start_bytes v =
     signature ++ (replicate 16 0
-    ++ (digits 2 minorVersion ++ (digits 2 (majorOf v) ++ (digits 2 byteOrder ++ (digits 2 (shift_of v) ++ (digits 2 miniShift
+    ++ (digits 2 minor_version ++ (digits 2 (major_of v) ++ (digits 2 byte_order ++ (digits 2 (shift_of v) ++ (digits 2 mini_shift
     ++ replicate 6 0))))))
 
 -- MS-CFB 2.2, the 36 bytes from 40 on: the counts and first sectors, with transaction 0 and the cutoff
-unfoldable pub numberBytes : Header → List ℕ
-numberBytes h =
+unfoldable pub number_bytes : Header → List ℕ
+number_bytes h =
     digits 4 h.dirs ++ (digits 4 h.fats ++ (digits 4 h.dir
-    ++ (digits 4 0 ++ (digits 4 miniCutoff
+    ++ (digits 4 0 ++ (digits 4 mini_cutoff
     ++ (digits 4 h.minifat ++ (digits 4 h.minifats ++ (digits 4 h.difat ++ digits 4 h.difats)))))))
 
 -- MS-CFB 2.2: the bytes of a header
-unfoldable pub headerBytes : Header → List ℕ
-unfolding startBytes numberBytes listBytes
-headerBytes h = startBytes h.version ++ (numberBytes h ++ listBytes h.list)
+unfoldable pub header_bytes : Header → List ℕ
+unfolding start_bytes number_bytes list_bytes
+header_bytes h = start_bytes h.version ++ (number_bytes h ++ list_bytes h.list)
 
 -- what the writer says of h and a buffer: document 01's number, and what the buffer then holds
 pub record WriteSays (h : Header) (before after : List ℕ) (v : WriteVerdict) : Type 0 where
-  pub number : writeNumber v ≡ writeNo h (length before)
-  pub buffer : after ≡ choose (eqb (writeNo h (length before)) 0) (splice before 0 (headerBytes h)) before
+  pub number : write_number v ≡ write_no h (length before)
+  pub buffer : after ≡ choose (eqb (write_no h (length before)) 0) (splice before 0 (header_bytes h)) before
 
 -- a header of the code's own types: every number below 2 ^ 32, and 109 entries
 pub record Sized (h : Header) : Type 0 where

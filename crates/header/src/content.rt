@@ -1,9 +1,9 @@
 // A header's content: out of its bytes, and into them (MS-CFB 2.2).
 ghost use Rattle.std.specs.Prelude.{◌≡◌, ◌≤◌, length};
 ghost use Rattle.lists.specs.Lists.{splice};
-ghost use Rattle.fields.specs.Fields.{dirsAt, offset_of};
-ghost use Rattle.header.specs.Read.{dirsOf, endIfFree, headerOf, none};
-ghost use Rattle.header.specs.Write.{startBytes, numberBytes};
+ghost use Rattle.fields.specs.Fields.{dirs_at, offset_of};
+ghost use Rattle.header.specs.Read.{dirs_of, end_if_free, header_of, none};
+ghost use Rattle.header.specs.Write.{start_bytes, number_bytes};
 
 use crate::judge::version_of;
 use crate::{Header, Read, ReadVerdict, Version};
@@ -13,14 +13,14 @@ use reader::read_fields;
 
 // The count of directory sectors, which version 3 does not keep.
 pub(crate) fn dirs_of(major: u32, dirs: u32) -> u32
-    ensures { result ≡ dirsOf major dirs }
+    ensures { result ≡ dirs_of major dirs }
 {
     if major == 3 { 0 } else { dirs }
 }
 
 // A first DIFAT sector of FREE is read as END.
 pub(crate) fn end_if_free(difat: u32) -> u32
-    ensures { result ≡ endIfFree difat }
+    ensures { result ≡ end_if_free difat }
 {
     if difat == consts::FREE_SECTOR {
         consts::END_OF_CHAIN
@@ -32,7 +32,7 @@ pub(crate) fn end_if_free(difat: u32) -> u32
 // The content of a whole header.
 pub fn content(b: &[u8]) -> Header
     requires { 512 ≤ length b.now }
-    ensures { result ≡ headerOf b.now }
+    ensures { result ≡ header_of b.now }
 {
     let n = read_fields(b);
     let list = read_list(b);
@@ -60,7 +60,7 @@ pub(crate) fn refused(verdict: ReadVerdict) -> Read
 // Stores the fields from the signature to the reserved bytes.
 pub(crate) fn put_start(buf: &mut [u8], version: Version)
     requires { 512 ≤ length buf.old }
-    ensures { buf.new ≡ splice buf.old 0 (startBytes version) }
+    ensures { buf.new ≡ splice buf.old 0 (start_bytes version) }
 {
     put_signature(buf);
     put_zeros(buf, CLASS);
@@ -75,7 +75,7 @@ pub(crate) fn put_start(buf: &mut [u8], version: Version)
 // Stores the fields from the count of directory sectors to that of DIFAT sectors.
 pub(crate) fn put_numbers(buf: &mut [u8], h: Header)
     requires { 512 ≤ length buf.old }
-    ensures { buf.new ≡ splice buf.old (offset_of dirsAt) (numberBytes h) }
+    ensures { buf.new ≡ splice buf.old (offset_of dirs_at) (number_bytes h) }
 {
     put_number(buf, DIRS, h.dirs);
     put_number(buf, FATS, h.fats);

@@ -1,8 +1,8 @@
 // The numbers that a header is judged by, and their verdict (document 01, refusals 3 to 8).
 ghost use Rattle.std.specs.Prelude.{◌≡◌, ◌≤◌, length};
 ghost use Rattle.lists.specs.Rows.{refusal};
-ghost use Rattle.header.specs.Versions.{versionOf};
-ghost use Rattle.header.specs.Read.{readNumber, fixed_of, unknown as unknownOf, countsDirs, fixedRows};
+ghost use Rattle.header.specs.Versions.{version_of};
+ghost use Rattle.header.specs.Read.{read_number, fixed_of, unknown as unknownOf, counts_dirs, fixed_rows};
 
 use crate::{ReadVerdict, Validation, Version};
 use reader::read_fields;
@@ -46,7 +46,7 @@ pub(crate) fn unknown(major: u32) -> bool
 
 // Whether directory sectors are counted where version 3 has none, and that matters.
 pub(crate) fn counts_dirs(validation: Validation, major: u32, dirs: u32) -> bool
-    ensures { result ≡ countsDirs validation major dirs }
+    ensures { result ≡ counts_dirs validation major dirs }
 {
     if !validation.is_strict() {
         return false;
@@ -59,14 +59,14 @@ pub(crate) fn counts_dirs(validation: Validation, major: u32, dirs: u32) -> bool
 
 // The version of a header whose major version is 3 or 4.
 pub fn version_of(major: u32) -> Version
-    ensures { result ≡ versionOf major }
+    ensures { result ≡ version_of major }
 {
     if major == 4 { Version::V4 } else { Version::V3 }
 }
 
 // The first cause among those numbers, if there is one.
 pub(crate) fn judge(f: Fixed, validation: Validation) -> ReadVerdict
-    ensures { readNumber result ≡ refusal (fixedRows validation f) }
+    ensures { read_number result ≡ refusal (fixed_rows validation f) }
 {
     if f.order != consts::BYTE_ORDER_MARK as u32 {
         return ReadVerdict::ByteOrder;

@@ -5,9 +5,9 @@ pub mod judge;
 
 ghost use Rattle.std.specs.Prelude.{◌≡◌};
 ghost use Rattle.fields.specs.Fields.{ids_in};
-ghost use Rattle.header.specs.Versions.{majorOf, shift_of, length_of, numberedOf, isStrict};
-ghost use Rattle.header.specs.Read.{readNumber, none as no_header, ReadSays};
-ghost use Rattle.header.specs.Write.{writeNumber, WriteSays};
+ghost use Rattle.header.specs.Versions.{major_of, shift_of, length_of, numbered_of, is_strict};
+ghost use Rattle.header.specs.Read.{read_number, none as no_header, ReadSays};
+ghost use Rattle.header.specs.Write.{write_number, WriteSays};
 
 use content::{content, put_numbers, put_start, refused};
 use fields::entries::{ids_then_free, leading_ids, put_list, unreadable};
@@ -33,7 +33,7 @@ pub enum Numbered {
 impl Version {
     // The version of a major version number.
     pub fn from_number(number: u32) -> Numbered
-        ensures { result ≡ numberedOf number }
+        ensures { result ≡ numbered_of number }
     {
         match number {
             3 => Numbered::Known(Version::V3),
@@ -44,7 +44,7 @@ impl Version {
 
     // The major version number.
     pub fn number(self) -> u32
-        ensures { result ≡ majorOf self }
+        ensures { result ≡ major_of self }
     {
         match self {
             Version::V3 => 3,
@@ -83,7 +83,7 @@ pub enum Validation {
 impl Validation {
     // Whether every rule is insisted on.
     pub fn is_strict(self) -> bool
-        ensures { result ≡ isStrict self }
+        ensures { result ≡ is_strict self }
     {
         match self {
             Validation::Permissive => false,
@@ -142,7 +142,7 @@ pub enum ReadVerdict {
 impl ReadVerdict {
     // Document 01's number of the refusal; 0 where there is none.
     pub fn number(self) -> u32
-        ensures { result ≡ readNumber self }
+        ensures { result ≡ read_number self }
     {
         match self {
             ReadVerdict::Accepted => 0,
@@ -235,7 +235,7 @@ pub enum WriteVerdict {
 impl WriteVerdict {
     // Document 01's number of the refusal; 0 where there is none.
     pub fn number(self) -> u32
-        ensures { result ≡ writeNumber self }
+        ensures { result ≡ write_number self }
     {
         match self {
             WriteVerdict::Written => 0,

@@ -1,12 +1,12 @@
 -- Nothing is lost at the library's edge: an item comes back from its numbers. Assumes nothing.
 use Prim.Native.Nat.{◌≤◌}
 use mathlib.Core.Path.{◌≡◌, refl, sym}
-use Rattle.consts.specs.Consts.{freeSector}
+use Rattle.consts.specs.Consts.{free_sector}
 use Rattle.consts.specs.declared.Sector.{Sector}
 use Rattle.consts.specs.declared.Sector.TheVariants.{Free, End, Fat, Difat, Range}
 use Rattle.items.specs.declared.Named.TheVariants.{Known}
-use Rattle.items.specs.Items.{sectorNumber, sectorFirst, sectorLast, named_of}
-use Rattle.items.proofs.Naming.{range-known}
+use Rattle.items.specs.Items.{sector_number, sector_first, sector_last, named_of}
+use Rattle.items.proofs.Naming.{range_known}
 
 -- the ends of a range are entries of 32 bits
 abbrev pub Entries : Sector → Type 0
@@ -14,13 +14,13 @@ Entries (Free n) = Unit {0}
 Entries End = Unit {0}
 Entries (Fat n) = Unit {0}
 Entries (Difat n) = Unit {0}
-Entries (Range a b) = (a ≤ freeSector) × (b ≤ freeSector)
+Entries (Range a b) = (a ≤ free_sector) × (b ≤ free_sector)
 
 -- every item is the one that its own numbers name
-pub item-again : (s : Sector) → Entries s → named_of (sectorNumber s) (sectorFirst s) (sectorLast s) ≡ Known s
+pub item_again : (s : Sector) → Entries s → named_of (sector_number s) (sector_first s) (sector_last s) ≡ Known s
 unfolding named_of
-item-again (Free n) h = refl
-item-again End h = refl
-item-again (Fat n) h = refl
-item-again (Difat n) h = refl
-item-again (Range a b) h = sym (range-known a b h.0 h.1)
+item_again (Free n) h = refl
+item_again End h = refl
+item_again (Fat n) h = refl
+item_again (Difat n) h = refl
+item_again (Range a b) h = sym (range_known a b h.0 h.1)

@@ -1,7 +1,7 @@
 -- The numbers that stand for kinds of entries and for items of the short list at the library's edge. Assumes nothing.
 use Rattle.std.specs.Prelude.{ℕ, List, [], ◌∷◌, eqb, leb}
 use Rattle.lists.specs.Lists.{choose, both}
-use Rattle.consts.specs.Consts.{freeSector}
+use Rattle.consts.specs.Consts.{free_sector}
 use Rattle.texts.specs.Text.{text_of, written}
 use Rattle.consts.specs.declared.Kind.{Kind}
 use Rattle.consts.specs.declared.Kind.TheVariants.{Regular, Reserved}
@@ -15,63 +15,63 @@ use Rattle.items.specs.declared.Named.{Named}
 use Rattle.items.specs.declared.Named.TheVariants.{Known, Unknown}
 
 -- MS-CFB 2.1: the kinds in the order of the entries that have them
-abbrev pub kindNumber : Kind → ℕ
-kindNumber Regular = 0
-kindNumber Reserved = 1
-kindNumber kinds.Difat = 2
-kindNumber kinds.Fat = 3
-kindNumber kinds.End = 4
-kindNumber kinds.Free = 5
+abbrev pub kind_number : Kind → ℕ
+kind_number Regular = 0
+kind_number Reserved = 1
+kind_number kinds.Difat = 2
+kind_number kinds.Fat = 3
+kind_number kinds.End = 4
+kind_number kinds.Free = 5
 
 -- the cases of the Rust's `Sector` in their order, from 1 on
-abbrev pub sectorNumber : Sector → ℕ
-sectorNumber (Free n) = 1
-sectorNumber End = 2
-sectorNumber (Fat n) = 3
-sectorNumber (Difat n) = 4
-sectorNumber (Range a b) = 5
+abbrev pub sector_number : Sector → ℕ
+sector_number (Free n) = 1
+sector_number End = 2
+sector_number (Fat n) = 3
+sector_number (Difat n) = 4
+sector_number (Range a b) = 5
 
 -- an item's count, which is 1 for END, or the first number of its range
-abbrev pub sectorFirst : Sector → ℕ
-sectorFirst (Free n) = n
-sectorFirst End = 1
-sectorFirst (Fat n) = n
-sectorFirst (Difat n) = n
-sectorFirst (Range a b) = a
+abbrev pub sector_first : Sector → ℕ
+sector_first (Free n) = n
+sector_first End = 1
+sector_first (Fat n) = n
+sector_first (Difat n) = n
+sector_first (Range a b) = a
 
 -- the last number of an item's range; an item that is none has 0
-abbrev pub sectorLast : Sector → ℕ
-sectorLast (Free n) = 0
-sectorLast End = 0
-sectorLast (Fat n) = 0
-sectorLast (Difat n) = 0
-sectorLast (Range a b) = b
+abbrev pub sector_last : Sector → ℕ
+sector_last (Free n) = 0
+sector_last End = 0
+sector_last (Fat n) = 0
+sector_last (Difat n) = 0
+sector_last (Range a b) = b
 
 -- the number of an answer of `prettify`: its item's, or 0 where it has none
-abbrev pub itemNumber : Item → ℕ
-itemNumber (Next s past) = sectorNumber s
-itemNumber Done = 0
+abbrev pub item_number : Item → ℕ
+item_number (Next s past) = sector_number s
+item_number Done = 0
 
 -- the three numbers beside it: the item's two, and the place past the item
-abbrev pub itemNumbers : Item → List ℕ
-itemNumbers (Next s past) = sectorFirst s ∷ sectorLast s ∷ past ∷ []
-itemNumbers Done = 0 ∷ 0 ∷ 0 ∷ []
+abbrev pub item_numbers : Item → List ℕ
+item_numbers (Next s past) = sector_first s ∷ sector_last s ∷ past ∷ []
+item_numbers Done = 0 ∷ 0 ∷ 0 ∷ []
 
 -- a range whose two numbers are entries of 32 bits
-unfoldable pub namedRange : ℕ → ℕ → Named
-namedRange a b = choose (both (leb a freeSector) (leb b freeSector)) (Known (Range a b)) Unknown
+unfoldable pub named_range : ℕ → ℕ → Named
+named_range a b = choose (both (leb a free_sector) (leb b free_sector)) (Known (Range a b)) Unknown
 
 -- the item that a case's number and two numbers name, if they name one
 unfoldable pub named_of : ℕ → ℕ → ℕ → Named
-unfolding namedRange
+unfolding named_range
 named_of kind a b =
     choose (eqb kind 1) (Known (Free a))
     (choose (eqb kind 2) (Known End)
     (choose (eqb kind 3) (Known (Fat a))
     (choose (eqb kind 4) (Known (Difat a))
-    (choose (eqb kind 5) (namedRange a b) Unknown))))
+    (choose (eqb kind 5) (named_range a b) Unknown))))
 
 -- the text of the item that is named, in 32 bytes; where none is, it is empty
-abbrev pub namedText : Named → Text
-namedText (Known s) = written (text_of s)
-namedText Unknown = written []
+abbrev pub named_text : Named → Text
+named_text (Known s) = written (text_of s)
+named_text Unknown = written []

@@ -1,13 +1,13 @@
 // The numbers that stand for a kind of entry and for an item of the short list.
 ghost use Rattle.std.specs.Prelude.{◌≡◌};
-ghost use Rattle.items.specs.Items.{kindNumber, sectorNumber, sectorFirst, sectorLast, itemNumber, itemNumbers, namedRange, named_of, namedText};
+ghost use Rattle.items.specs.Items.{kind_number, sector_number, sector_first, sector_last, item_number, item_numbers, named_range, named_of, named_text};
 
 use consts::{Item, Kind, Sector};
 use texts::Text;
 
 // The number of a kind.
 pub fn number_of_kind(kind: Kind) -> u32
-    ensures { result ≡ kindNumber kind }
+    ensures { result ≡ kind_number kind }
 {
     match kind {
         Kind::Regular => 0,
@@ -21,7 +21,7 @@ pub fn number_of_kind(kind: Kind) -> u32
 
 // The number of an item's case.
 fn number_of_sector(s: Sector) -> u32
-    ensures { result ≡ sectorNumber s }
+    ensures { result ≡ sector_number s }
 {
     match s {
         Sector::Free(_) => 1,
@@ -34,7 +34,7 @@ fn number_of_sector(s: Sector) -> u32
 
 // An item's count, which is 1 for END, or the first number of its range.
 fn first_of_sector(s: Sector) -> u64
-    ensures { result ≡ sectorFirst s }
+    ensures { result ≡ sector_first s }
 {
     match s {
         Sector::Free(n) => n as u64,
@@ -47,7 +47,7 @@ fn first_of_sector(s: Sector) -> u64
 
 // The last number of an item's range, or 0 for an item that is none.
 fn last_of_sector(s: Sector) -> u64
-    ensures { result ≡ sectorLast s }
+    ensures { result ≡ sector_last s }
 {
     match s {
         Sector::Free(_) => 0,
@@ -60,7 +60,7 @@ fn last_of_sector(s: Sector) -> u64
 
 // The number of what was found at a place: 0 where nothing was.
 pub fn number_of_item(found: Item) -> u32
-    ensures { result ≡ itemNumber found }
+    ensures { result ≡ item_number found }
 {
     match found {
         Item::Next(s, _) => number_of_sector(s),
@@ -70,7 +70,7 @@ pub fn number_of_item(found: Item) -> u32
 
 // The two numbers of an item and the place past it, or zeros where nothing was found.
 pub fn item_numbers(found: Item) -> [u64; 3]
-    ensures { result ≡ itemNumbers found }
+    ensures { result ≡ item_numbers found }
 {
     match found {
         Item::Next(s, past) => [first_of_sector(s), last_of_sector(s), past as u64],
@@ -87,7 +87,7 @@ pub enum Named {
 
 // A range from a to b, where both are numbers that an entry can have.
 fn named_range(a: u64, b: u64) -> Named
-    ensures { result ≡ namedRange a b }
+    ensures { result ≡ named_range a b }
 {
     if 0xffff_ffff < a {
         return Named::Unknown;
@@ -114,7 +114,7 @@ pub fn item_named(kind: u32, a: u64, b: u64) -> Named
 
 // The text of the item that is named, or none.
 pub fn named_text(asked: Named) -> Text
-    ensures { result ≡ namedText asked }
+    ensures { result ≡ named_text asked }
 {
     match asked {
         Named::Known(s) => texts::text_of(s),

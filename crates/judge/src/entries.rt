@@ -1,7 +1,7 @@
 // What the entries of a FAT say of its sectors (document 01, refusals 15 to 18), and the list of the FREE ones.
 ghost use Rattle.std.specs.Prelude.{◌≡◌, ◌≤◌, ◌<◌, length, replicate};
-ghost use Rattle.consts.specs.Consts.{maxRegular};
-ghost use Rattle.judge.specs.Judge.{marksOf, noneDangles};
+ghost use Rattle.consts.specs.Consts.{max_regular};
+ghost use Rattle.judge.specs.Judge.{marks_of, none_dangles};
 ghost use Rattle.judge.specs.Judged.{Judged, JudgedOne, Listed};
 
 // Judges sector i by the marks that the sectors below it made: 0, or 15, 16 or 17. At 0 its entry is forgiven, and the sector that it points at is marked.
@@ -34,7 +34,7 @@ pub fn judge_one(strict: bool, i: usize, fat: &mut [u32], marks: &mut [u8]) -> u
 
 // Judges the sectors upward: the number of the first bad one, or 0. At 0 the FAT is forgiven and each pointed-to sector marked; after a refusal the tables hold what was judged so far.
 pub fn judge(strict: bool, fat: &mut [u32], marks: &mut [u8]) -> u32
-    requires fat_len_bound { length fat.old ≤ maxRegular }
+    requires fat_len_bound { length fat.old ≤ max_regular }
     requires marks_value { marks.old ≡ replicate (length fat.old) 0 }
     ensures { Judged strict fat.old result fat.new marks.new }
 {
@@ -51,8 +51,8 @@ pub fn judge(strict: bool, fat: &mut [u32], marks: &mut [u8]) -> u32
 
 // Whether no pointed-to sector is FREE. No branch in the loop: so it runs on vectors.
 pub fn none_dangles(fat: &[u32], marks: &[u8]) -> bool
-    requires { marks.now ≡ marksOf (length fat.now) fat.now }
-    ensures { result ≡ noneDangles (length fat.now) fat.now }
+    requires { marks.now ≡ marks_of (length fat.now) fat.now }
+    ensures { result ≡ none_dangles (length fat.now) fat.now }
 {
     let mut fine = true;
     let mut i = 0;
@@ -66,7 +66,7 @@ pub fn none_dangles(fat: &[u32], marks: &[u8]) -> bool
 // Stores the FREE sectors, ascending, and says how many they are; what lies past them stays.
 pub fn list_free(fat: &[u32], frees: &mut [u32]) -> usize
     requires fat_in_bounds { length fat.now ≤ length frees.old }
-    requires fat_len_bound { length fat.now ≤ maxRegular }
+    requires fat_len_bound { length fat.now ≤ max_regular }
     ensures { Listed fat.now frees.old result frees.new }
 {
     let mut count = 0;

@@ -1,9 +1,9 @@
 // A FAT as the bytes have it, judged (document 01, refusals 14 to 18).
 ghost use Rattle.std.specs.Prelude.{◌≡◌, true, not, ◌≤◌, length, replicate};
 ghost use Rattle.lists.specs.Lists.{both};
-ghost use Rattle.consts.specs.Consts.{maxRegular, difatSector, fatSector};
+ghost use Rattle.consts.specs.Consts.{max_regular, difat_sector, fat_sector};
 ghost use Rattle.fat.specs.Lists.{all_below};
-ghost use Rattle.judge.specs.Judge.{allMarked};
+ghost use Rattle.judge.specs.Judge.{all_marked};
 ghost use Rattle.judge.specs.Judged.{FatJudged};
 
 use crate::entries::{judge, none_dangles};
@@ -13,7 +13,7 @@ use crate::marks::{listed_marked, set_listed};
 pub fn unmarked(strict: bool, fat: &[u32], difats: &[u32], fats: &[u32]) -> bool
     requires difats_value { all_below (length fat.now) difats.now ≡ true }
     requires fats_value { all_below (length fat.now) fats.now ≡ true }
-    ensures { result ≡ both strict (not (both (allMarked fat.now difats.now difatSector) (allMarked fat.now fats.now fatSector))) }
+    ensures { result ≡ both strict (not (both (all_marked fat.now difats.now difat_sector) (all_marked fat.now fats.now fat_sector))) }
 {
     if !strict {
         return false;
@@ -30,7 +30,7 @@ pub fn judge_fat(
     marks: &mut [u8],
 ) -> u32
     requires difats_value { (all_below (length fat.old) difats.now ≡ true) × (all_below (length fat.old) fats.now ≡ true) }
-    requires fat_len_bound { length fat.old ≤ maxRegular }
+    requires fat_len_bound { length fat.old ≤ max_regular }
     requires marks_value { marks.old ≡ replicate (length fat.old) 0 }
     ensures { FatJudged strict fat.old difats.now fats.now result fat.new marks.new }
 {

@@ -1,16 +1,16 @@
 // What the FAT says of the sectors that a list names (document 01, refusal 14).
 ghost use Rattle.std.specs.Prelude.{◌≡◌, true, length};
 ghost use Rattle.lists.specs.Lists.{both};
-ghost use Rattle.consts.specs.Consts.{difatSector, fatSector};
+ghost use Rattle.consts.specs.Consts.{difat_sector, fat_sector};
 ghost use Rattle.fat.specs.Lists.{all_below};
-ghost use Rattle.judge.specs.Judge.{allMarked, setAll, markedFat};
+ghost use Rattle.judge.specs.Judge.{all_marked, set_all, marked_fat};
 
 use fat::places::index;
 
 // Whether the entry of every listed sector is v. No early way out either.
 pub fn all_marked(fat: &[u32], ids: &[u32], v: u32) -> bool
     requires { all_below (length fat.now) ids.now ≡ true }
-    ensures { result ≡ allMarked fat.now ids.now v }
+    ensures { result ≡ all_marked fat.now ids.now v }
 {
     let mut marked = true;
     let mut j = 0;
@@ -27,7 +27,7 @@ pub fn all_marked(fat: &[u32], ids: &[u32], v: u32) -> bool
 // Makes the entry of every listed sector v.
 pub fn set_all(fat: &mut [u32], ids: &[u32], v: u32)
     requires { all_below (length fat.old) ids.now ≡ true }
-    ensures { fat.new ≡ setAll fat.old ids.now v }
+    ensures { fat.new ≡ set_all fat.old ids.now v }
 {
     let mut j = 0;
     while j < ids.len() {
@@ -41,7 +41,7 @@ pub fn set_all(fat: &mut [u32], ids: &[u32], v: u32)
 pub fn listed_marked(fat: &[u32], difats: &[u32], fats: &[u32]) -> bool
     requires difats_value { all_below (length fat.now) difats.now ≡ true }
     requires fats_value { all_below (length fat.now) fats.now ≡ true }
-    ensures { result ≡ both (allMarked fat.now difats.now difatSector) (allMarked fat.now fats.now fatSector) }
+    ensures { result ≡ both (all_marked fat.now difats.now difat_sector) (all_marked fat.now fats.now fat_sector) }
 {
     if !all_marked(fat, difats, consts::DIFAT_SECTOR) {
         return false;
@@ -53,7 +53,7 @@ pub fn listed_marked(fat: &[u32], difats: &[u32], fats: &[u32]) -> bool
 pub fn set_listed(fat: &mut [u32], difats: &[u32], fats: &[u32])
     requires difats_value { all_below (length fat.old) difats.now ≡ true }
     requires fats_value { all_below (length fat.old) fats.now ≡ true }
-    ensures { fat.new ≡ markedFat fat.old difats.now fats.now }
+    ensures { fat.new ≡ marked_fat fat.old difats.now fats.now }
 {
     set_all(fat, difats, consts::DIFAT_SECTOR);
     set_all(fat, fats, consts::FAT_SECTOR);

@@ -9,25 +9,25 @@ use borrow.Author.Tests.{eq-eqb, ne_eqb}
 use lib.ListN.{length, get_or, take, drop, set, replicate, length-drop, length-replicate, replicate-append-replicate, drop_of_length-le}
 use lib.Seq.{take-suc, take_all, length-take-le, get_or-drop, take_at}
 use Rattle.lists.specs.Lists.{splice}
-use Rattle.lists.proofs.Splice.{splice-whole}
-use Rattle.words.proofs.Laws.{put-more, copied_more}
-use Rattle.header.specs.Versions.{majorOf}
+use Rattle.lists.proofs.Splice.{splice_whole}
+use Rattle.words.proofs.Laws.{put_more, copied_more}
+use Rattle.header.specs.Versions.{major_of}
 use Rattle.header.specs.declared.Version.{Version}
 use Rattle.header.specs.declared.Validation.TheVariants.{Permissive, Strict}
 use Rattle.header.specs.declared.Header.{Header}
-use Rattle.layout.specs.Layout.{mode_of, words_of, headerWith}
+use Rattle.layout.specs.Layout.{mode_of, words_of, header_with}
 
 -- one element more of a list that goes in from place o on
-pub placed-more : (b : List ℕ) (o : ℕ) (xs : List ℕ) (i : ℕ) {l : List ℕ} → l ≡ splice b o (take i xs) → i < length xs → o + length xs ≤ length b
+pub placed_more : (b : List ℕ) (o : ℕ) (xs : List ℕ) (i : ℕ) {l : List ℕ} → l ≡ splice b o (take i xs) → i < length xs → o + length xs ≤ length b
     → set l (o + i) (get_or xs i 0) ≡ splice b o (take (i + 1) xs)
-placed-more b o xs i e h fits =
+placed_more b o xs i e h fits =
     let whole : length (take i xs) ≡ i = length-take-le i xs (omega arith) in
-    rw (e, add-one i, take-suc xs i 0) (put-more b o (get_or xs i 0) i (take i xs) whole (omega arith))
+    rw (e, add-one i, take-suc xs i 0) (put_more b o (get_or xs i 0) i (take i xs) whole (omega arith))
 
 -- the whole of a list of n behind o zeros
-pub placed-all : (o n : ℕ) (xs : List ℕ) (i : ℕ) {l : List ℕ} → l ≡ splice (replicate (o + n) 0) o (take i xs) → length xs ≡ n → n ≤ i → l ≡ replicate o 0 ++ xs
+pub placed_all : (o n : ℕ) (xs : List ℕ) (i : ℕ) {l : List ℕ} → l ≡ splice (replicate (o + n) 0) o (take i xs) → length xs ≡ n → n ≤ i → l ≡ replicate o 0 ++ xs
 unfolding splice
-placed-all o n xs i e w h =
+placed_all o n xs i e w h =
     let zeros : replicate {A = ℕ} (o + n) 0 ≡ replicate o 0 ++ replicate n 0 = sym (replicate-append-replicate {A = ℕ} o n 0) in
     let front : take o (replicate {A = ℕ} o 0 ++ replicate n 0) ≡ replicate o 0 = take_at (replicate o 0) (replicate n 0) o (length-replicate {A = ℕ} o 0) in
     let whole : length (replicate {A = ℕ} (o + n) 0) ≡ o + n = length-replicate {A = ℕ} (o + n) 0 in
@@ -43,30 +43,30 @@ taken_more o n words i e m h =
     rw (e, ← get_or-drop o words i 0) (copied_more (drop o words) (replicate n 0) i (omega arith) (omega arith))
 
 -- all of what stands behind the first o
-pub taken-list : (o n : ℕ) (words : List ℕ) (i : ℕ) {l : List ℕ} → l ≡ splice (replicate n 0) 0 (take i (drop o words)) → length words ≡ o + n → n ≤ i → l ≡ drop o words
-taken-list o n words i e m h =
+pub taken_list : (o n : ℕ) (words : List ℕ) (i : ℕ) {l : List ℕ} → l ≡ splice (replicate n 0) 0 (take i (drop o words)) → length words ≡ o + n → n ≤ i → l ≡ drop o words
+taken_list o n words i e m h =
     let rest : length (drop o words) ≡ n = omega (arith, length-drop o words, m) in
     let same : length (drop o words) ≡ length (replicate {A = ℕ} n 0) = rest ∙ sym (length-replicate {A = ℕ} n 0) in
-    e ∙ rw (take_all i (drop o words) (omega arith)) (splice-whole (replicate n 0) (drop o words) same)
+    e ∙ rw (take_all i (drop o words) (omega arith)) (splice_whole (replicate n 0) (drop o words) same)
 
 -- eight numbers put over the zeros before a list are the words of a header
-pub words-stored : (h : Header) {words : List ℕ} {major : ℕ} → words ≡ replicate 8 0 ++ h.list → major ≡ majorOf h.version
+pub words_stored : (h : Header) {words : List ℕ} {major : ℕ} → words ≡ replicate 8 0 ++ h.list → major ≡ major_of h.version
     → set (set (set (set (set (set (set (set words 0 major) 1 h.dirs) 2 h.fats) 3 h.dir) 4 h.minifat) 5 h.minifats) 6 h.difat) 7 h.difats ≡ words_of h
 unfolding words_of
-words-stored h e m = rw (e, m)
+words_stored h e m = rw (e, m)
 
 -- numbers that are read at their places, and the list behind them, are the header that the words hold
 pub list_held : (v : Version) (words : List ℕ) {list : List ℕ} → list ≡ drop 8 words
-    → ◌≡◌ {A = Header} (record { version = v; dirs = get_or words 1 0; fats = get_or words 2 0; dir = get_or words 3 0; minifat = get_or words 4 0; minifats = get_or words 5 0; difat = get_or words 6 0; difats = get_or words 7 0; list = list }) (headerWith v words)
-unfolding headerWith
+    → ◌≡◌ {A = Header} (record { version = v; dirs = get_or words 1 0; fats = get_or words 2 0; dir = get_or words 3 0; minifat = get_or words 4 0; minifats = get_or words 5 0; difat = get_or words 6 0; difats = get_or words 7 0; list = list }) (header_with v words)
+unfolding header_with
 list_held v words e = rw e
 
 -- 0 is permissive
-pub mode-zero : (n : ℕ) → n ≡ 0 → Permissive ≡ mode_of n
+pub mode_zero : (n : ℕ) → n ≡ 0 → Permissive ≡ mode_of n
 unfolding mode_of
-mode-zero n e = rw (eq-eqb n 0 e)
+mode_zero n e = rw (eq-eqb n 0 e)
 
 -- any other number is strict
-pub mode-other : (n : ℕ) → n ≢ 0 → Strict ≡ mode_of n
+pub mode_other : (n : ℕ) → n ≢ 0 → Strict ≡ mode_of n
 unfolding mode_of
-mode-other n ne = rw (ne_eqb n 0 ne)
+mode_other n ne = rw (ne_eqb n 0 ne)

@@ -1,6 +1,6 @@
 // A header as 117 words: the number of its version, its seven other numbers, and the 109 entries of its list.
 ghost use Rattle.std.specs.Prelude.{◌≡◌, ◌++◌, drop, replicate};
-ghost use Rattle.layout.specs.Layout.{mode_of, words_of, headerWith};
+ghost use Rattle.layout.specs.Layout.{mode_of, words_of, header_with};
 
 use header::{Header, Validation, Version};
 
@@ -60,7 +60,7 @@ fn list_from(words: [u32; 117]) -> [u32; 109]
 
 // The header that words hold beside a version.
 pub fn header_with(version: Version, words: [u32; 117]) -> Header
-    ensures { result ≡ headerWith version words }
+    ensures { result ≡ header_with version words }
 {
     let list = list_from(words);
     Header {

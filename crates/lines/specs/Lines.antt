@@ -1,7 +1,7 @@
 -- The lines of a listing: of the counts, of each item, of a refusal (document 01, the end of "Cases from the shelf"). Assumes nothing.
 use Rattle.std.specs.Prelude.{ℕ, List, [], ◌∷◌, ◌++◌}
-use Rattle.consts.specs.Pretty.{prettifyOf}
-use Rattle.texts.specs.Text.{decimalOf, text_of}
+use Rattle.consts.specs.Pretty.{prettify_of}
+use Rattle.texts.specs.Text.{decimal_of, text_of}
 use Rattle.consts.specs.declared.Sector.{Sector}
 
 -- document 01, "one item a line": the text of an item and a line feed
@@ -16,33 +16,33 @@ lines_of [] = []
 lines_of (s ∷ ss) = line_of s ++ lines_of ss
 
 -- document 01, the text for Q: the word "sectors " in ASCII
-abbrev pub sectorsWord : List ℕ
-sectorsWord = 115 ∷ 101 ∷ 99 ∷ 116 ∷ 111 ∷ 114 ∷ 115 ∷ 32 ∷ []
+abbrev pub sectors_word : List ℕ
+sectors_word = 115 ∷ 101 ∷ 99 ∷ 116 ∷ 111 ∷ 114 ∷ 115 ∷ 32 ∷ []
 
 -- document 01, the text for Q: the word " free " in ASCII
-abbrev pub freeWord : List ℕ
-freeWord = 32 ∷ 102 ∷ 114 ∷ 101 ∷ 101 ∷ 32 ∷ []
+abbrev pub free_word : List ℕ
+free_word = 32 ∷ 102 ∷ 114 ∷ 101 ∷ 101 ∷ 32 ∷ []
 
 -- document 01, "writes `refused`": the word "refused " in ASCII
-abbrev pub refusedWord : List ℕ
-refusedWord = 114 ∷ 101 ∷ 102 ∷ 117 ∷ 115 ∷ 101 ∷ 100 ∷ 32 ∷ []
+abbrev pub refused_word : List ℕ
+refused_word = 114 ∷ 101 ∷ 102 ∷ 117 ∷ 115 ∷ 101 ∷ 100 ∷ 32 ∷ []
 
 -- document 01, the text for Q: a word and a number in decimal
 unfoldable pub counted : List ℕ → ℕ → List ℕ
-unfolding decimalOf
-counted word n = word ++ decimalOf n
+unfolding decimal_of
+counted word n = word ++ decimal_of n
 
 -- document 01, the text for Q: the line `sectors N free M`
-unfoldable pub countsLine : ℕ → ℕ → List ℕ
+unfoldable pub counts_line : ℕ → ℕ → List ℕ
 unfolding counted
-countsLine n free = counted sectorsWord n ++ (counted freeWord free ++ (10 ∷ []))
+counts_line n free = counted sectors_word n ++ (counted free_word free ++ (10 ∷ []))
 
 -- document 01, "`refused` and the number on one line"
-unfoldable pub refusedLine : ℕ → List ℕ
+unfoldable pub refused_line : ℕ → List ℕ
 unfolding counted
-refusedLine k = counted refusedWord k ++ (10 ∷ [])
+refused_line k = counted refused_word k ++ (10 ∷ [])
 
 -- document 01, "lists the FAT as `prettify` does": the line of the counts, and the lines of the items
 unfoldable pub listed : ℕ → ℕ → List ℕ → List ℕ
-unfolding countsLine lines_of prettifyOf
-listed n free fat = countsLine n free ++ lines_of (prettifyOf fat)
+unfolding counts_line lines_of prettify_of
+listed n free fat = counts_line n free ++ lines_of (prettify_of fat)

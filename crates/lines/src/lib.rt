@@ -1,8 +1,8 @@
 // The lines of the listing of a FAT, put into a lent buffer one after the other.
 ghost use Rattle.std.specs.Prelude.{◌+◌, ◌*◌, ◌≤◌, length};
-ghost use Rattle.consts.specs.Pretty.{prettifyOf};
-ghost use Rattle.texts.specs.Text.{decimalOf, Put};
-ghost use Rattle.lines.specs.Lines.{counted, line_of, lines_of, countsLine, refusedLine, listed};
+ghost use Rattle.consts.specs.Pretty.{prettify_of};
+ghost use Rattle.texts.specs.Text.{decimal_of, Put};
+ghost use Rattle.lines.specs.Lines.{counted, line_of, lines_of, counts_line, refused_line, listed};
 
 use consts::{Item, Sector};
 
@@ -18,8 +18,8 @@ fn put_word(out: &mut [u8], at: usize, word: &[u8]) -> usize
 
 // Puts `n` in decimal at `at` and gives the place past it.
 fn put_number(out: &mut [u8], at: usize, n: usize) -> usize
-    requires { at + length (decimalOf n) ≤ length out.old }
-    ensures { Put out.old at (decimalOf n) result out.new }
+    requires { at + length (decimal_of n) ≤ length out.old }
+    ensures { Put out.old at (decimal_of n) result out.new }
 {
     let digits = texts::digits_of(n);
     let bytes = digits.bytes;
@@ -50,8 +50,8 @@ fn put_item(out: &mut [u8], at: usize, s: Sector) -> usize
 
 // Puts the lines of the items of a FAT from `from` on and gives the place past them.
 fn put_items(out: &mut [u8], from: usize, fat: &[u32]) -> usize
-    requires { from + length (lines_of (prettifyOf fat.now)) ≤ length out.old }
-    ensures { Put out.old from (lines_of (prettifyOf fat.now)) result out.new }
+    requires { from + length (lines_of (prettify_of fat.now)) ≤ length out.old }
+    ensures { Put out.old from (lines_of (prettify_of fat.now)) result out.new }
 {
     let mut at = from;
     let mut i = 0;
@@ -69,7 +69,7 @@ fn put_items(out: &mut [u8], from: usize, fat: &[u32]) -> usize
 // Puts the line of the counts at the front and gives its length.
 fn put_counts(out: &mut [u8], sectors: usize, free: usize) -> usize
     requires { 55 ≤ length out.old }
-    ensures { Put out.old 0 (countsLine sectors free) result out.new }
+    ensures { Put out.old 0 (counts_line sectors free) result out.new }
 {
     let a = put_counted(out, 0, b"sectors ", sectors);
     let b = put_counted(out, a, b" free ", free);
@@ -88,7 +88,7 @@ pub fn put_listed(out: &mut [u8], sectors: usize, free: usize, fat: &[u32]) -> u
 // Puts the line of a refusal at the front and gives its length.
 pub fn put_refused(out: &mut [u8], no: u32) -> usize
     requires { 29 ≤ length out.old }
-    ensures { Put out.old 0 (refusedLine no) result out.new }
+    ensures { Put out.old 0 (refused_line no) result out.new }
 {
     let a = put_counted(out, 0, b"refused ", no as usize);
     put_word(out, a, b"\n")

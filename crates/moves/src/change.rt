@@ -1,9 +1,9 @@
 // What a change makes of a listed chain (document 01, Write and Resize). Room is known before, so nothing fails halfway.
 ghost use Rattle.std.specs.Prelude.{◌≡◌, List, ℕ, ◌+◌, ◌-◌, ◌*◌, ◌≤◌, ◌<◌, length, take};
 ghost use Rattle.alloc.specs.Opening.{padded};
-ghost use Rattle.fat.specs.Lists.{roomOf};
+ghost use Rattle.fat.specs.Lists.{room_of};
 ghost use Rattle.stores.specs.Stores.{Writable};
-ghost use Rattle.moves.specs.Change.{shrink as shrunk, seekOf, place_of, bytes_of, editMore, editNeed, stored, edited, FitsShrink, FitsEdit};
+ghost use Rattle.moves.specs.Change.{shrink as shrunk, seek_of, place_of, bytes_of, edit_more, edit_need, stored, edited, FitsShrink, FitsEdit};
 
 use crate::extend::extend_by;
 use hand::{free_run, link_last};
@@ -48,7 +48,7 @@ fn shrink(
     count: usize,
     m: usize,
 )
-    requires { (difats : List ℕ) × FitsShrink s (roomOf s (length image.now)) m (record { hand = record { disk = record { image = image.now; fat = fat.old; fats = fats.now; difats = difats; sectors = n }; frees = frees.old; free = free; marks = marks.old }; ids = ids.old; count = count }) }
+    requires { (difats : List ℕ) × FitsShrink s (room_of s (length image.now)) m (record { hand = record { disk = record { image = image.now; fat = fat.old; fats = fats.now; difats = difats; sectors = n }; frees = frees.old; free = free; marks = marks.old }; ids = ids.old; count = count }) }
     ensures { (difats : List ℕ) → record { hand = record { disk = record { image = image.exit.now; fat = fat.new; fats = fats.now; difats = difats; sectors = n }; frees = frees.new; free = (free + (count - m)); marks = marks.new }; ids = ids.new; count = m } ≡ shrunk s (record { hand = record { disk = record { image = image.entry.now; fat = fat.old; fats = fats.now; difats = difats; sectors = n }; frees = frees.old; free = free; marks = marks.old }; ids = ids.old; count = count }) m }
 {
     if count <= m {
@@ -73,8 +73,8 @@ fn shrink(
 
 // How many sectors an edit of so many bytes asks for more than a chain of count has.
 pub fn more_of(s: usize, count: usize, edit: Edit, bytes: usize) -> usize
-    requires { (2 ≤ s) × (s ≤ 65536) × (seekOf edit ≤ s * count) × (s * count < 18446744073709551616) }
-    ensures { result ≡ editMore s count edit bytes }
+    requires { (2 ≤ s) × (s ≤ 65536) × (seek_of edit ≤ s * count) × (s * count < 18446744073709551616) }
+    ensures { result ≡ edit_more s count edit bytes }
 {
     match edit {
         Edit::Write(offset) => sectors_past(s, count, offset as usize, bytes),
@@ -84,8 +84,8 @@ pub fn more_of(s: usize, count: usize, edit: Edit, bytes: usize) -> usize
 
 // How many sectors a chain of count has after an edit of so many bytes.
 fn need_of(s: usize, count: usize, edit: Edit, bytes: usize) -> usize
-    requires { (2 ≤ s) × (s ≤ 65536) × (seekOf edit ≤ s * count) × (s * count < 18446744073709551616) × (count + editMore s count edit bytes < 18446744073709551616) }
-    ensures { result ≡ editNeed s count edit bytes }
+    requires { (2 ≤ s) × (s ≤ 65536) × (seek_of edit ≤ s * count) × (s * count < 18446744073709551616) × (count + edit_more s count edit bytes < 18446744073709551616) }
+    ensures { result ≡ edit_need s count edit bytes }
 {
     match edit {
         Edit::Write(_) => count + more_of(s, count, edit, bytes),
@@ -124,7 +124,7 @@ pub fn change(
     edit: Edit,
     buf: &[u8],
 ) -> Changed
-    requires { FitsEdit s (roomOf s (length image.now)) edit (length buf.now) (record { hand = record { disk = record { image = image.now; fat = fat.old; fats = fats.old; difats = difats.old; sectors = n }; frees = frees.old; free = free; marks = marks.old }; ids = ids.old; count = count }) }
+    requires { FitsEdit s (room_of s (length image.now)) edit (length buf.now) (record { hand = record { disk = record { image = image.now; fat = fat.old; fats = fats.old; difats = difats.old; sectors = n }; frees = frees.old; free = free; marks = marks.old }; ids = ids.old; count = count }) }
     ensures { record { hand = record { disk = record { image = image.exit.now; fat = fat.new; fats = fats.new; difats = difats.new; sectors = result.sectors }; frees = frees.new; free = result.free; marks = marks.new }; ids = ids.new; count = result.ids } ≡ edited s (record { hand = record { disk = record { image = image.entry.now; fat = fat.old; fats = fats.old; difats = difats.old; sectors = n }; frees = frees.old; free = free; marks = marks.old }; ids = ids.old; count = count }) edit buf.now }
 {
     let need = need_of(s, count, edit, buf.len());

@@ -1,8 +1,8 @@
 // A chain extended by the moves on what is in hand.
 ghost use Rattle.std.specs.Prelude.{◌≡◌, length};
-ghost use Rattle.fat.specs.Lists.{roomOf};
+ghost use Rattle.fat.specs.Lists.{room_of};
 ghost use Rattle.hand.specs.Fits.{FitsMore};
-ghost use Rattle.hand.specs.Hand.{extendOne, extend};
+ghost use Rattle.hand.specs.Hand.{extend_one, extend};
 
 use crate::change::Changed;
 use hand::{link_last, take_sector_id};
@@ -21,8 +21,8 @@ fn extend_one(
     ids: &mut [u32],
     count: usize,
 ) -> Changed
-    requires { FitsMore s (roomOf s (length image.now)) 1 (record { hand = record { disk = record { image = image.now; fat = fat.old; fats = fats.old; difats = difats.old; sectors = n }; frees = frees.old; free = free; marks = marks.old }; ids = ids.old; count = count }) }
-    ensures { record { hand = record { disk = record { image = image.exit.now; fat = fat.new; fats = fats.new; difats = difats.new; sectors = result.sectors }; frees = frees.new; free = result.free; marks = marks.new }; ids = ids.new; count = result.ids } ≡ extendOne s (record { hand = record { disk = record { image = image.entry.now; fat = fat.old; fats = fats.old; difats = difats.old; sectors = n }; frees = frees.old; free = free; marks = marks.old }; ids = ids.old; count = count }) }
+    requires { FitsMore s (room_of s (length image.now)) 1 (record { hand = record { disk = record { image = image.now; fat = fat.old; fats = fats.old; difats = difats.old; sectors = n }; frees = frees.old; free = free; marks = marks.old }; ids = ids.old; count = count }) }
+    ensures { record { hand = record { disk = record { image = image.exit.now; fat = fat.new; fats = fats.new; difats = difats.new; sectors = result.sectors }; frees = frees.new; free = result.free; marks = marks.new }; ids = ids.new; count = result.ids } ≡ extend_one s (record { hand = record { disk = record { image = image.entry.now; fat = fat.old; fats = fats.old; difats = difats.old; sectors = n }; frees = frees.old; free = free; marks = marks.old }; ids = ids.old; count = count }) }
 {
     let taken = take_sector_id(image, s, n, free, fat, fats, difats, frees);
     let id = taken.id;
@@ -51,7 +51,7 @@ pub fn extend_by(
     count: usize,
     more: usize,
 ) -> Changed
-    requires { FitsMore s (roomOf s (length image.now)) more (record { hand = record { disk = record { image = image.now; fat = fat.old; fats = fats.old; difats = difats.old; sectors = n }; frees = frees.old; free = free; marks = marks.old }; ids = ids.old; count = count }) }
+    requires { FitsMore s (room_of s (length image.now)) more (record { hand = record { disk = record { image = image.now; fat = fat.old; fats = fats.old; difats = difats.old; sectors = n }; frees = frees.old; free = free; marks = marks.old }; ids = ids.old; count = count }) }
     ensures { record { hand = record { disk = record { image = image.exit.now; fat = fat.new; fats = fats.new; difats = difats.new; sectors = result.sectors }; frees = frees.new; free = result.free; marks = marks.new }; ids = ids.new; count = result.ids } ≡ extend s (record { hand = record { disk = record { image = image.entry.now; fat = fat.old; fats = fats.old; difats = difats.old; sectors = n }; frees = frees.old; free = free; marks = marks.old }; ids = ids.old; count = count }) more }
 {
     let mut grown = Changed {

@@ -2,9 +2,9 @@
 // and what came of it, or of a chain of it, compared.
 ghost use Rattle.std.specs.Prelude.{◌≡◌, true, ◌<◌, length, get_or};
 ghost use Rattle.alloc.specs.Opening.{Tables};
-ghost use Rattle.cfb.specs.Calls.{toldBy};
-ghost use Rattle.records.specs.Records.{numbersIn};
-ghost use Rattle.openings.specs.Openings.{place_in, entriesIn, sectorBytes, tablesIn, CountedAs, ToldAs, Says, OpenedAs, ImageAgrees};
+ghost use Rattle.cfb.specs.Calls.{told_by};
+ghost use Rattle.records.specs.Records.{numbers_in};
+ghost use Rattle.openings.specs.Openings.{place_in, entries_in, sector_bytes, tables_in, CountedAs, ToldAs, Says, OpenedAs, ImageAgrees};
 
 use agree::alike::same_numbers;
 use cfb::{Answer, State};
@@ -16,7 +16,7 @@ const RUBBISH: u32 = 0xaaaa_aaaa;
 // Puts the sector of the FAT: the entries of the record, and FREE behind them.
 fn put_entries(case: &[u8], sector: &mut [u8])
     requires { (length case.now ≡ 1024) × (length sector.old ≡ 512) }
-    ensures { sector.new ≡ entriesIn case.now }
+    ensures { sector.new ≡ entries_in case.now }
 {
     words::fill(sector, 0xff);
     words::copy(&case[520..616], sector);
@@ -25,7 +25,7 @@ fn put_entries(case: &[u8], sector: &mut [u8])
 // Puts a header and 24 sectors: the header of the record, its FAT sector in its place, and zeros.
 fn put_sectors(case: &[u8], place: usize, image: &mut [u8])
     requires { (length case.now ≡ 1024) × (place ≡ place_in case.now) × (place < 24) × (length image.old ≡ 12800) }
-    ensures { image.new ≡ sectorBytes case.now }
+    ensures { image.new ≡ sector_bytes case.now }
 {
     words::fill(image, 0);
     words::copy(&case[8..520], image);
@@ -37,7 +37,7 @@ fn put_sectors(case: &[u8], place: usize, image: &mut [u8])
 // Whether a table holds the 24 numbers that stand in 96 bytes.
 fn same_table(table: &[u32], held: &[u8]) -> bool
     requires { length held.now ≡ 96 }
-    ensures { result ≡ true → table.now ≡ numbersIn held.now 24 }
+    ensures { result ≡ true → table.now ≡ numbers_in held.now 24 }
 {
     let mut numbers = [0u32; 24];
     take_numbers(held, &mut numbers);
@@ -54,7 +54,7 @@ fn same_tables(
     case: &[u8],
 ) -> bool
     requires { length case.now ≡ 1024 }
-    ensures { result ≡ true → ◌≡◌ {A = Tables} (record { fat = fat.entry.now; fats = fats.now; difats = difats.now; frees = frees.now; marks = marks.now }) (tablesIn case.now) }
+    ensures { result ≡ true → ◌≡◌ {A = Tables} (record { fat = fat.entry.now; fats = fats.now; difats = difats.now; frees = frees.now; marks = marks.now }) (tables_in case.now) }
 {
     if !same_table(fat, &case[616..712]) {
         return false;
@@ -87,7 +87,7 @@ fn same_counts(number: u32, state: State, case: &[u8]) -> bool
 
 // How many ids an answer tells of: none beside a refusal.
 fn ids_told(answer: Answer) -> usize
-    ensures { result ≡ get_or (toldBy answer) 1 0 }
+    ensures { result ≡ get_or (told_by answer) 1 0 }
 {
     match answer {
         Answer::Done {
@@ -102,7 +102,7 @@ fn ids_told(answer: Answer) -> usize
 // Whether an answer and the id list beside it are those of the record: the number in byte 4, the count in byte 6, the list from 620 on.
 fn same_told(answer: Answer, ids: &[u32], case: &[u8]) -> bool
     requires { length case.now ≡ 1024 }
-    ensures { result ≡ true → ToldAs case.now (toldBy answer) ids.now }
+    ensures { result ≡ true → ToldAs case.now (told_by answer) ids.now }
 {
     if answer.number() != number_in(case) {
         return false;

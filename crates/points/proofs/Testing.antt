@@ -9,17 +9,17 @@ use borrow.Author.Tests.{eq-eqb, eqb-true}
 use lib.Dec.{eqb}
 use lib.ListN.{length, get_or, length-append}
 use Rattle.lists.specs.Lists.{both, every, tab, same_list}
-use Rattle.lists.proofs.Cases.{same_test, every-at, every_of}
-use Rattle.lists.proofs.Tab.{getD-tab, is-tab}
-use Rattle.lists.proofs.Splice.{sameList-true, sameList-refl}
-use Rattle.consts.specs.Consts.{freeSector}
-use Rattle.judge.specs.Judge.{freesOf}
-use Rattle.judge.proofs.Judging.{frees-end-yes, frees-end-no}
+use Rattle.lists.proofs.Cases.{same_test, every_at, every_of}
+use Rattle.lists.proofs.Tab.{getD_tab, is_tab}
+use Rattle.lists.proofs.Splice.{sameList_true, sameList_refl}
+use Rattle.consts.specs.Consts.{free_sector}
+use Rattle.judge.specs.Judge.{frees_of}
+use Rattle.judge.proofs.Judging.{frees_end_yes, frees_end_no}
 
 -- a loop that tests each number in turn and keeps what it finds: a turn
-pub flag-more : (f : ℕ → Bool) (j : ℕ) (flag t : Bool) → flag ≡ every j f → t ≡ f j → (flag && t) ≡ every (j + 1) f
+pub flag_more : (f : ℕ → Bool) (j : ℕ) (flag t : Bool) → flag ≡ every j f → t ≡ f j → (flag && t) ≡ every (j + 1) f
 unfolding every
-flag-more f j flag t e h = rw (add-one j, e, h) (swapped (every j f) (f j))
+flag_more f j flag t e h = rw (add-one j, e, h) (swapped (every j f) (f j))
   where
     swapped : (a b : Bool) → (a && b) ≡ both b a
     swapped true true = refl
@@ -29,17 +29,17 @@ flag-more f j flag t e h = rw (add-one j, e, h) (swapped (every j f) (f j))
 
 -- two equal lists pass the test, and the test of a list and a table goes element by element
 pub same_of : (a b : List ℕ) → a ≡ b → same_list a b ≡ true
-same_of a b e = ap (same_list a) (sym e) ∙ sameList-refl a
+same_of a b e = ap (same_list a) (sym e) ∙ sameList_refl a
 
-pub same-tab : (xs : List ℕ) (f : ℕ → ℕ) (n : ℕ) → length xs ≡ n → every n (λ i. eqb (get_or xs i 0) (f i)) ≡ same_list xs (tab f n)
-same-tab xs f n e =
+pub same_tab : (xs : List ℕ) (f : ℕ → ℕ) (n : ℕ) → length xs ≡ n → every n (λ i. eqb (get_or xs i 0) (f i)) ≡ same_list xs (tab f n)
+same_tab xs f n e =
     same_test (every n (λ i. eqb (get_or xs i 0) (f i))) (same_list xs (tab f n))
-    (λ t. same_of xs (tab f n) (is-tab xs f n e (λ i h. eqb-true _ _ (every-at n (λ k. eqb (get_or xs k 0) (f k)) t i h))))
-    (λ t. every_of n (λ k. eqb (get_or xs k 0) (f k)) (λ i h. eq-eqb _ _ (ap (λ (l : List ℕ). get_or l i 0) (sameList-true xs (tab f n) t) ∙ getD-tab f n i 0 h)))
+    (λ t. same_of xs (tab f n) (is_tab xs f n e (λ i h. eqb-true _ _ (every_at n (λ k. eqb (get_or xs k 0) (f k)) t i h))))
+    (λ t. every_of n (λ k. eqb (get_or xs k 0) (f k)) (λ i h. eq-eqb _ _ (ap (λ (l : List ℕ). get_or l i 0) (sameList_true xs (tab f n) t) ∙ getD_tab f n i 0 h)))
 
 -- one entry more, FREE or not
-pub count_yes : (fat : List ℕ) (i count next : ℕ) → get_or fat i 0 ≡ freeSector → count ≡ length (freesOf i fat) → next ≡ count + 1 → next ≡ length (freesOf (i + 1) fat)
-count_yes fat i count next e h s = s ∙ sym (rw (frees-end-yes fat i e, length-append) (omega arith))
+pub count_yes : (fat : List ℕ) (i count next : ℕ) → get_or fat i 0 ≡ free_sector → count ≡ length (frees_of i fat) → next ≡ count + 1 → next ≡ length (frees_of (i + 1) fat)
+count_yes fat i count next e h s = s ∙ sym (rw (frees_end_yes fat i e, length-append) (omega arith))
 
-pub count_no : (fat : List ℕ) (i count next : ℕ) → (get_or fat i 0 ≡ freeSector → ⊥) → count ≡ length (freesOf i fat) → next ≡ count → next ≡ length (freesOf (i + 1) fat)
-count_no fat i count next d h s = s ∙ h ∙ sym (rw (frees-end-no fat i d))
+pub count_no : (fat : List ℕ) (i count next : ℕ) → (get_or fat i 0 ≡ free_sector → ⊥) → count ≡ length (frees_of i fat) → next ≡ count → next ≡ length (frees_of (i + 1) fat)
+count_no fat i count next d h s = s ∙ h ∙ sym (rw (frees_end_no fat i d))

@@ -8,28 +8,28 @@ use lib.ListN.{length, get_or, replicate}
 use Rattle.lists.specs.Lists.{choose, both, every, tab, splice, part, same_list}
 use Rattle.lists.specs.Rows.{Row, row, refusal}
 use Rattle.words.specs.Words.{le, digits}
-use Rattle.consts.specs.Consts.{fatSector, endOfChain, freeSector}
-use Rattle.fields.specs.Fields.{number_at, list_of, idsThenFree}
-use Rattle.header.specs.Versions.{versionOf, isStrict}
-use Rattle.header.specs.Read.{headerOf, unknown, countsDirs, dirsOf, endIfFree}
-use Rattle.header.specs.Write.{headerBytes}
+use Rattle.consts.specs.Consts.{fat_sector, end_of_chain, free_sector}
+use Rattle.fields.specs.Fields.{number_at, list_of, ids_then_free}
+use Rattle.header.specs.Versions.{version_of, is_strict}
+use Rattle.header.specs.Read.{header_of, unknown, counts_dirs, dirs_of, end_if_free}
+use Rattle.header.specs.Write.{header_bytes}
 use Rattle.header.specs.declared.Version.TheVariants.{V3}
 use Rattle.header.specs.declared.Validation.{Validation}
 use Rattle.header.specs.declared.Validation.TheVariants.{Permissive, Strict}
 use Rattle.header.specs.declared.Header.{Header}
 use Rattle.sectors.specs.Sectors.{start_of}
-use Rattle.sectors.specs.Init.{initBytes}
-use Rattle.fat.specs.Lists.{roomOf}
-use Rattle.alloc.specs.Opening.{Tables, openNo, shortest}
-use Rattle.alloc.specs.Opened.{tablesLeft}
-use Rattle.alloc.proofs.Examples.{headerQ, image_of, imageQ}
-use Rattle.agree.specs.Agree.{sameHeader, holds}
-use Rattle.chain.specs.Bytes.{chainBytes}
+use Rattle.sectors.specs.Init.{init_bytes}
+use Rattle.fat.specs.Lists.{room_of}
+use Rattle.alloc.specs.Opening.{Tables, open_no, shortest}
+use Rattle.alloc.specs.Opened.{tables_left}
+use Rattle.alloc.proofs.Examples.{header_q, image_of, image_q}
+use Rattle.agree.specs.Agree.{same_header, holds}
+use Rattle.chain.specs.Bytes.{chain_bytes}
 use Rattle.hand.specs.Hand.{Chain}
-use Rattle.moves.specs.Change.{ids_of, withImage, resized, written}
+use Rattle.moves.specs.Change.{ids_of, with_image, resized, written}
 use Rattle.cfb.specs.Face.{state_of, tables_of}
-use Rattle.cfb.specs.Calls.{stateLen, chainNo, chainIds}
-use Rattle.cfb.specs.Changes.{writeNo, resizeNo, chainFrom, stateFrom, tablesIn, start_in}
+use Rattle.cfb.specs.Calls.{state_len, chain_no, chain_ids}
+use Rattle.cfb.specs.Changes.{write_no, resize_no, chain_from, state_from, tables_in, start_in}
 use Rattle.cfb.specs.declared.State.{State}
 
 -- the numbers of the rows that fail
@@ -41,54 +41,54 @@ bad (r ∷ rs) = choose r.holds (bad rs) (r.no ∷ bad rs)
 unfoldable pub lent : ℕ → Tables
 lent r = record { fat = replicate r 0; fats = replicate r 0; difats = replicate r 0; frees = replicate r 0; marks = replicate r 0 }
 
-unfoldable pub stateAt : Validation → List ℕ → ℕ → ℕ → State
+unfoldable pub state_at : Validation → List ℕ → ℕ → ℕ → State
 unfolding lent
-stateAt m img used r = state_of (openNo m img used (shortest (lent r))) m img used
+state_at m img used r = state_of (open_no m img used (shortest (lent r))) m img used
 
-unfoldable pub tablesAt : Validation → List ℕ → ℕ → ℕ → Tables
+unfoldable pub tables_at : Validation → List ℕ → ℕ → ℕ → Tables
 unfolding lent
-tablesAt m img used r = tablesLeft (openNo m img used (shortest (lent r))) (lent r) (tables_of img used)
+tables_at m img used r = tables_left (open_no m img used (shortest (lent r))) (lent r) (tables_of img used)
 
 -- document 01, image Q: 3,584 bytes of it are used, R is 7
-unfoldable pub stateQ : State
-unfolding stateAt
-stateQ = stateAt Strict imageQ 3584 7
+unfoldable pub state_q : State
+unfolding state_at
+state_q = state_at Strict image_q 3584 7
 
-unfoldable pub tablesQ : Tables
-unfolding tablesAt
-tablesQ = tablesAt Strict imageQ 3584 7
+unfoldable pub tables_q : Tables
+unfolding tables_at
+tables_q = tables_at Strict image_q 3584 7
 
 -- its chain in hand from sector 1 on, resized, and written with a buffer of 600 bytes, none of them zero
-unfoldable pub chainQ : Chain
-unfolding stateQ tablesQ
-chainQ = chainFrom stateQ imageQ tablesQ 7 1
+unfoldable pub chain_q : Chain
+unfolding state_q tables_q
+chain_q = chain_from state_q image_q tables_q 7 1
 
-unfoldable pub resizedQ : ℕ → Chain
-unfolding chainQ
-resizedQ len = resized (stateLen stateQ) chainQ len
+unfoldable pub resized_q : ℕ → Chain
+unfolding chain_q
+resized_q len = resized (state_len state_q) chain_q len
 
-unfoldable pub bufferQ : List ℕ
-bufferQ = tab (λ i. i % 251 + 1) 600
+unfoldable pub buffer_q : List ℕ
+buffer_q = tab (λ i. i % 251 + 1) 600
 
-unfoldable pub writtenQ : Chain
-unfolding chainQ bufferQ
-writtenQ = written (stateLen stateQ) chainQ 1536 bufferQ
+unfoldable pub written_q : Chain
+unfolding chain_q buffer_q
+written_q = written (state_len state_q) chain_q 1536 buffer_q
 
 -- the bytes of a chain in hand
-unfoldable pub bytesIn : Chain → List ℕ
-bytesIn c = chainBytes 512 c.hand.disk.image (ids_of c)
+unfoldable pub bytes_in : Chain → List ℕ
+bytes_in c = chain_bytes 512 c.hand.disk.image (ids_of c)
 
 -- the free list in hand is this one, with zeros behind it
-unfoldable pub freesAre : Chain → List ℕ → Bool
-freesAre c xs = both (eqb c.hand.free (length xs)) (holds (tablesIn c).frees xs)
+unfoldable pub frees_are : Chain → List ℕ → Bool
+frees_are c xs = both (eqb c.hand.free (length xs)) (holds (tables_in c).frees xs)
 
 -- a chain in hand has these ids, with zeros behind them, and starts with the first
-unfoldable pub idsAre : Chain → List ℕ → Bool
-idsAre c xs = both (same_list (ids_of c) xs) (both (holds c.ids xs) (eqb (start_in c.ids c.count) (get_or xs 0 endOfChain)))
+unfoldable pub ids_are : Chain → List ℕ → Bool
+ids_are c xs = both (same_list (ids_of c) xs) (both (holds c.ids xs) (eqb (start_in c.ids c.count) (get_or xs 0 end_of_chain)))
 
 -- two chains in hand are the same: every table, every number, the ids, and the image
-unfoldable pub sameChain : Chain → Chain → Bool
-sameChain a b =
+unfoldable pub same_chain : Chain → Chain → Bool
+same_chain a b =
     both (same_list a.hand.disk.image b.hand.disk.image)
     (both (same_list a.hand.disk.fat b.hand.disk.fat)
     (both (same_list a.hand.disk.fats b.hand.disk.fats)
@@ -101,180 +101,180 @@ sameChain a b =
     (eqb a.count b.count)))))))))
 
 -- two states are the same
-unfoldable pub sameState : State → State → Bool
-sameState a b =
-    both (same (isStrict a.mode) (isStrict b.mode))
+unfoldable pub same_state : State → State → Bool
+same_state a b =
+    both (same (is_strict a.mode) (is_strict b.mode))
     (both (eqb a.used b.used)
     (both (eqb a.sectors b.sectors)
     (both (eqb a.free b.free)
-    (sameHeader a.header b.header))))
+    (same_header a.header b.header))))
   where
     same : Bool → Bool → Bool
     same p q = choose p q (not q)
 
 -- document 01, image Q: version 3, n = 6, R = 7, entries FAT, 2, 3, END, FREE, FREE
-unfoldable pub imageRows : List Row
-unfolding stateQ tablesQ
-imageRows =
-    row 1 (eqb (openNo Strict imageQ 3584 (shortest (lent 7))) 0)
-    ∷ row 2 (eqb (stateLen stateQ) 512)
-    ∷ row 3 (eqb stateQ.sectors 6)
-    ∷ row 4 (eqb (roomOf (stateLen stateQ) (length imageQ)) 7)
-    ∷ row 5 (holds tablesQ.fat (fatSector ∷ 2 ∷ 3 ∷ endOfChain ∷ freeSector ∷ freeSector ∷ []))
+unfoldable pub image_rows : List Row
+unfolding state_q tables_q
+image_rows =
+    row 1 (eqb (open_no Strict image_q 3584 (shortest (lent 7))) 0)
+    ∷ row 2 (eqb (state_len state_q) 512)
+    ∷ row 3 (eqb state_q.sectors 6)
+    ∷ row 4 (eqb (room_of (state_len state_q) (length image_q)) 7)
+    ∷ row 5 (holds tables_q.fat (fat_sector ∷ 2 ∷ 3 ∷ end_of_chain ∷ free_sector ∷ free_sector ∷ []))
     ∷ []
 
 -- case 1: start 1: ids 1, 2, 3; length 1,536; free list 4, 5
-unfoldable pub openCase : List Row
-unfolding stateQ tablesQ chainQ
-openCase =
-    row 101 (eqb (chainNo stateQ imageQ tablesQ 7 1) 0)
-    ∷ row 102 (same_list (chainIds stateQ tablesQ 1) (1 ∷ 2 ∷ 3 ∷ []))
-    ∷ row 103 (eqb (stateLen stateQ * length (chainIds stateQ tablesQ 1)) 1536)
-    ∷ row 104 (eqb (length (bytesIn chainQ)) 1536)
-    ∷ row 105 (both (eqb stateQ.free 2) (holds tablesQ.frees (4 ∷ 5 ∷ [])))
+unfoldable pub open_case : List Row
+unfolding state_q tables_q chain_q
+open_case =
+    row 101 (eqb (chain_no state_q image_q tables_q 7 1) 0)
+    ∷ row 102 (same_list (chain_ids state_q tables_q 1) (1 ∷ 2 ∷ 3 ∷ []))
+    ∷ row 103 (eqb (state_len state_q * length (chain_ids state_q tables_q 1)) 1536)
+    ∷ row 104 (eqb (length (bytes_in chain_q)) 1536)
+    ∷ row 105 (both (eqb state_q.free 2) (holds tables_q.frees (4 ∷ 5 ∷ [])))
     ∷ []
 
 -- case 2: write 600 bytes at 1,536: ids 1, 2, 3, 5, 4; bytes 2,136 to 2,559 zero; and the bytes before them are the old ones and the buffer
-unfoldable pub writeCase : List Row
-unfolding stateQ tablesQ chainQ writtenQ bytesIn freesAre idsAre
-writeCase =
-    row 201 (eqb (writeNo stateQ imageQ tablesQ 7 1 1536 (length bufferQ)) 0)
-    ∷ row 202 (idsAre writtenQ (1 ∷ 2 ∷ 3 ∷ 5 ∷ 4 ∷ []))
-    ∷ row 203 (same_list (part (bytesIn writtenQ) 2136 424) (replicate 424 0))
-    ∷ row 204 (eqb (length (bytesIn writtenQ)) 2560)
-    ∷ row 205 (same_list (part (bytesIn writtenQ) 1536 600) bufferQ)
-    ∷ row 206 (same_list (part (bytesIn writtenQ) 0 1536) (bytesIn chainQ))
-    ∷ row 207 (freesAre writtenQ [])
+unfoldable pub write_case : List Row
+unfolding state_q tables_q chain_q written_q bytes_in frees_are ids_are
+write_case =
+    row 201 (eqb (write_no state_q image_q tables_q 7 1 1536 (length buffer_q)) 0)
+    ∷ row 202 (ids_are written_q (1 ∷ 2 ∷ 3 ∷ 5 ∷ 4 ∷ []))
+    ∷ row 203 (same_list (part (bytes_in written_q) 2136 424) (replicate 424 0))
+    ∷ row 204 (eqb (length (bytes_in written_q)) 2560)
+    ∷ row 205 (same_list (part (bytes_in written_q) 1536 600) buffer_q)
+    ∷ row 206 (same_list (part (bytes_in written_q) 0 1536) (bytes_in chain_q))
+    ∷ row 207 (frees_are written_q [])
     ∷ []
 
 -- case 3: write at 1,537: 23
-unfoldable pub beyondCase : List Row
-unfolding stateQ tablesQ
-beyondCase = row 301 (eqb (writeNo stateQ imageQ tablesQ 7 1 1537 600) 23) ∷ []
+unfoldable pub beyond_case : List Row
+unfolding state_q tables_q
+beyond_case = row 301 (eqb (write_no state_q image_q tables_q 7 1 1537 600) 23) ∷ []
 
 -- case 4: resize 1,536: nothing changes; 1,300: 236 bytes zeroed, and no other byte, table or number changes; 1,537: takes 5
-unfoldable pub resizeCase : List Row
-unfolding stateQ tablesQ chainQ resizedQ freesAre idsAre sameChain sameState
-resizeCase =
-    row 401 (eqb (resizeNo stateQ imageQ tablesQ 7 1 1536) 0)
-    ∷ row 402 (sameChain (resizedQ 1536) chainQ)
-    ∷ row 403 (sameState (stateFrom stateQ (resizedQ 1536)) stateQ)
-    ∷ row 411 (eqb (resizeNo stateQ imageQ tablesQ 7 1 1300) 0)
-    ∷ row 412 (sameChain (resizedQ 1300) (withImage chainQ (splice imageQ (start_of 512 3 + 276) (replicate 236 0))))
-    ∷ row 413 (same_list (bytesIn (resizedQ 1300)) (part (bytesIn chainQ) 0 1300 ++ replicate 236 0))
-    ∷ row 421 (eqb (resizeNo stateQ imageQ tablesQ 7 1 1537) 0)
-    ∷ row 422 (idsAre (resizedQ 1537) (1 ∷ 2 ∷ 3 ∷ 5 ∷ []))
-    ∷ row 423 (freesAre (resizedQ 1537) (4 ∷ []))
+unfoldable pub resize_case : List Row
+unfolding state_q tables_q chain_q resized_q frees_are ids_are same_chain same_state
+resize_case =
+    row 401 (eqb (resize_no state_q image_q tables_q 7 1 1536) 0)
+    ∷ row 402 (same_chain (resized_q 1536) chain_q)
+    ∷ row 403 (same_state (state_from state_q (resized_q 1536)) state_q)
+    ∷ row 411 (eqb (resize_no state_q image_q tables_q 7 1 1300) 0)
+    ∷ row 412 (same_chain (resized_q 1300) (with_image chain_q (splice image_q (start_of 512 3 + 276) (replicate 236 0))))
+    ∷ row 413 (same_list (bytes_in (resized_q 1300)) (part (bytes_in chain_q) 0 1300 ++ replicate 236 0))
+    ∷ row 421 (eqb (resize_no state_q image_q tables_q 7 1 1537) 0)
+    ∷ row 422 (ids_are (resized_q 1537) (1 ∷ 2 ∷ 3 ∷ 5 ∷ []))
+    ∷ row 423 (frees_are (resized_q 1537) (4 ∷ []))
     ∷ []
 
 -- case 5: resize 513: ids 1, 2; free list 4, 5, 3; chain bytes 513 to 1,023 zero; 512: ids 1; free list 4, 5, 2, 3
-unfoldable pub shrinkCase : List Row
-unfolding stateQ tablesQ chainQ resizedQ bytesIn freesAre idsAre
-shrinkCase =
-    row 501 (eqb (resizeNo stateQ imageQ tablesQ 7 1 513) 0)
-    ∷ row 502 (idsAre (resizedQ 513) (1 ∷ 2 ∷ []))
-    ∷ row 503 (freesAre (resizedQ 513) (4 ∷ 5 ∷ 3 ∷ []))
-    ∷ row 504 (same_list (bytesIn (resizedQ 513)) (part (bytesIn chainQ) 0 513 ++ replicate 511 0))
-    ∷ row 511 (eqb (resizeNo stateQ imageQ tablesQ 7 1 512) 0)
-    ∷ row 512 (idsAre (resizedQ 512) (1 ∷ []))
-    ∷ row 513 (freesAre (resizedQ 512) (4 ∷ 5 ∷ 2 ∷ 3 ∷ []))
+unfoldable pub shrink_case : List Row
+unfolding state_q tables_q chain_q resized_q bytes_in frees_are ids_are
+shrink_case =
+    row 501 (eqb (resize_no state_q image_q tables_q 7 1 513) 0)
+    ∷ row 502 (ids_are (resized_q 513) (1 ∷ 2 ∷ []))
+    ∷ row 503 (frees_are (resized_q 513) (4 ∷ 5 ∷ 3 ∷ []))
+    ∷ row 504 (same_list (bytes_in (resized_q 513)) (part (bytes_in chain_q) 0 513 ++ replicate 511 0))
+    ∷ row 511 (eqb (resize_no state_q image_q tables_q 7 1 512) 0)
+    ∷ row 512 (ids_are (resized_q 512) (1 ∷ []))
+    ∷ row 513 (frees_are (resized_q 512) (4 ∷ 5 ∷ 2 ∷ 3 ∷ []))
     ∷ []
 
 -- case 6: resize 0: free list 4, 5, 1, 2, 3; no ids, and the start is END
-unfoldable pub freeCase : List Row
-unfolding stateQ tablesQ chainQ resizedQ freesAre idsAre
-freeCase =
-    row 601 (eqb (resizeNo stateQ imageQ tablesQ 7 1 0) 0)
-    ∷ row 602 (freesAre (resizedQ 0) (4 ∷ 5 ∷ 1 ∷ 2 ∷ 3 ∷ []))
-    ∷ row 603 (idsAre (resizedQ 0) [])
+unfoldable pub free_case : List Row
+unfolding state_q tables_q chain_q resized_q frees_are ids_are
+free_case =
+    row 601 (eqb (resize_no state_q image_q tables_q 7 1 0) 0)
+    ∷ row 602 (frees_are (resized_q 0) (4 ∷ 5 ∷ 1 ∷ 2 ∷ 3 ∷ []))
+    ∷ row 603 (ids_are (resized_q 0) [])
     ∷ []
 
 -- case 7: resize 3,072: ids 1, 2, 3, 5, 4, 6; 3,584: 24
-unfoldable pub growCase : List Row
-unfolding stateQ tablesQ chainQ resizedQ freesAre idsAre
-growCase =
-    row 701 (eqb (resizeNo stateQ imageQ tablesQ 7 1 3072) 0)
-    ∷ row 702 (idsAre (resizedQ 3072) (1 ∷ 2 ∷ 3 ∷ 5 ∷ 4 ∷ 6 ∷ []))
-    ∷ row 703 (both (eqb (resizedQ 3072).hand.disk.sectors 7) (freesAre (resizedQ 3072) []))
-    ∷ row 711 (eqb (resizeNo stateQ imageQ tablesQ 7 1 3584) 24)
+unfoldable pub grow_case : List Row
+unfolding state_q tables_q chain_q resized_q frees_are ids_are
+grow_case =
+    row 701 (eqb (resize_no state_q image_q tables_q 7 1 3072) 0)
+    ∷ row 702 (ids_are (resized_q 3072) (1 ∷ 2 ∷ 3 ∷ 5 ∷ 4 ∷ 6 ∷ []))
+    ∷ row 703 (both (eqb (resized_q 3072).hand.disk.sectors 7) (frees_are (resized_q 3072) []))
+    ∷ row 711 (eqb (resize_no state_q image_q tables_q 7 1 3584) 24)
     ∷ []
 
 -- case 8: start 2: opens, ids 2, 3; a change is 25: a write, a resize, a free; start 4: 21; start 6: 20
-unfoldable pub startCase : List Row
-unfolding stateQ tablesQ
-startCase =
-    row 801 (eqb (chainNo stateQ imageQ tablesQ 7 2) 0)
-    ∷ row 802 (same_list (chainIds stateQ tablesQ 2) (2 ∷ 3 ∷ []))
-    ∷ row 803 (eqb (writeNo stateQ imageQ tablesQ 7 2 0 1) 25)
-    ∷ row 804 (eqb (resizeNo stateQ imageQ tablesQ 7 2 1024) 25)
-    ∷ row 805 (eqb (resizeNo stateQ imageQ tablesQ 7 2 0) 25)
-    ∷ row 811 (eqb (chainNo stateQ imageQ tablesQ 7 4) 21)
-    ∷ row 812 (eqb (resizeNo stateQ imageQ tablesQ 7 4 512) 21)
-    ∷ row 821 (eqb (chainNo stateQ imageQ tablesQ 7 6) 20)
-    ∷ row 822 (eqb (resizeNo stateQ imageQ tablesQ 7 6 512) 20)
+unfoldable pub start_case : List Row
+unfolding state_q tables_q
+start_case =
+    row 801 (eqb (chain_no state_q image_q tables_q 7 2) 0)
+    ∷ row 802 (same_list (chain_ids state_q tables_q 2) (2 ∷ 3 ∷ []))
+    ∷ row 803 (eqb (write_no state_q image_q tables_q 7 2 0 1) 25)
+    ∷ row 804 (eqb (resize_no state_q image_q tables_q 7 2 1024) 25)
+    ∷ row 805 (eqb (resize_no state_q image_q tables_q 7 2 0) 25)
+    ∷ row 811 (eqb (chain_no state_q image_q tables_q 7 4) 21)
+    ∷ row 812 (eqb (resize_no state_q image_q tables_q 7 4 512) 21)
+    ∷ row 821 (eqb (chain_no state_q image_q tables_q 7 6) 20)
+    ∷ row 822 (eqb (resize_no state_q image_q tables_q 7 6 512) 20)
     ∷ []
 
 -- case 9: an image of a header alone, lent with room for r sectors
-unfoldable pub headerAlone : Header
-headerAlone = record { version = V3; dirs = 0; fats = 0; dir = endOfChain; minifat = endOfChain; minifats = 0; difat = endOfChain; difats = 0; list = replicate 109 freeSector }
+unfoldable pub header_alone : Header
+header_alone = record { version = V3; dirs = 0; fats = 0; dir = end_of_chain; minifat = end_of_chain; minifats = 0; difat = end_of_chain; difats = 0; list = replicate 109 free_sector }
 
-unfoldable pub imageAlone : ℕ → List ℕ
-unfolding headerAlone
-imageAlone r = headerBytes headerAlone ++ replicate (512 * r) 7
+unfoldable pub image_alone : ℕ → List ℕ
+unfolding header_alone
+image_alone r = header_bytes header_alone ++ replicate (512 * r) 7
 
-unfoldable pub stateAlone : ℕ → State
-unfolding imageAlone stateAt
-stateAlone r = stateAt Strict (imageAlone r) 512 r
+unfoldable pub state_alone : ℕ → State
+unfolding image_alone state_at
+state_alone r = state_at Strict (image_alone r) 512 r
 
-unfoldable pub tablesAlone : ℕ → Tables
-unfolding imageAlone tablesAt
-tablesAlone r = tablesAt Strict (imageAlone r) 512 r
+unfoldable pub tables_alone : ℕ → Tables
+unfolding image_alone tables_at
+tables_alone r = tables_at Strict (image_alone r) 512 r
 
-unfoldable pub writtenAlone : ℕ → Chain
-unfolding imageAlone stateAlone tablesAlone
-writtenAlone r = written (stateLen (stateAlone r)) (chainFrom (stateAlone r) (imageAlone r) (tablesAlone r) r endOfChain) 0 (42 ∷ [])
+unfoldable pub written_alone : ℕ → Chain
+unfolding image_alone state_alone tables_alone
+written_alone r = written (state_len (state_alone r)) (chain_from (state_alone r) (image_alone r) (tables_alone r) r end_of_chain) 0 (42 ∷ [])
 
 -- n = 0, R = 2, write one byte to END: sector 0 FAT, sector 1 data, header 44 is 1, 76 is 0; with R = 1: 24
-unfoldable pub aloneCase : List Row
-unfolding imageAlone stateAlone tablesAlone writtenAlone bytesIn freesAre idsAre
-aloneCase =
-    row 901 (eqb (openNo Strict (imageAlone 2) 512 (shortest (lent 2))) 0)
-    ∷ row 902 (both (eqb (stateAlone 2).sectors 0) (eqb (roomOf (stateLen (stateAlone 2)) (length (imageAlone 2))) 2))
-    ∷ row 903 (eqb (writeNo (stateAlone 2) (imageAlone 2) (tablesAlone 2) 2 endOfChain 0 1) 0)
-    ∷ row 904 (both (eqb (writtenAlone 2).hand.disk.sectors 2) (same_list (tablesIn (writtenAlone 2)).fat (fatSector ∷ endOfChain ∷ [])))
-    ∷ row 905 (both (eqb (get_or (tablesIn (writtenAlone 2)).fats 0 9) 0) (idsAre (writtenAlone 2) (1 ∷ [])))
-    ∷ row 906 (same_list (bytesIn (writtenAlone 2)) (42 ∷ replicate 511 0))
-    ∷ row 907 (eqb (le 4 (writtenAlone 2).hand.disk.image 44) 1)
-    ∷ row 908 (eqb (le 4 (writtenAlone 2).hand.disk.image 76) 0)
-    ∷ row 909 (both (eqb (headerOf (writtenAlone 2).hand.disk.image).fats 1) (same_list (headerOf (writtenAlone 2).hand.disk.image).list (0 ∷ replicate 108 freeSector)))
-    ∷ row 910 (both (eqb (le 4 (writtenAlone 2).hand.disk.image (start_of 512 0)) fatSector) (eqb (openNo Strict (writtenAlone 2).hand.disk.image 1536 (shortest (lent 2))) 0))
-    ∷ row 911 (eqb (openNo Strict (imageAlone 1) 512 (shortest (lent 1))) 0)
-    ∷ row 912 (eqb (roomOf (stateLen (stateAlone 1)) (length (imageAlone 1))) 1)
-    ∷ row 913 (eqb (writeNo (stateAlone 1) (imageAlone 1) (tablesAlone 1) 1 endOfChain 0 1) 24)
+unfoldable pub alone_case : List Row
+unfolding image_alone state_alone tables_alone written_alone bytes_in frees_are ids_are
+alone_case =
+    row 901 (eqb (open_no Strict (image_alone 2) 512 (shortest (lent 2))) 0)
+    ∷ row 902 (both (eqb (state_alone 2).sectors 0) (eqb (room_of (state_len (state_alone 2)) (length (image_alone 2))) 2))
+    ∷ row 903 (eqb (write_no (state_alone 2) (image_alone 2) (tables_alone 2) 2 end_of_chain 0 1) 0)
+    ∷ row 904 (both (eqb (written_alone 2).hand.disk.sectors 2) (same_list (tables_in (written_alone 2)).fat (fat_sector ∷ end_of_chain ∷ [])))
+    ∷ row 905 (both (eqb (get_or (tables_in (written_alone 2)).fats 0 9) 0) (ids_are (written_alone 2) (1 ∷ [])))
+    ∷ row 906 (same_list (bytes_in (written_alone 2)) (42 ∷ replicate 511 0))
+    ∷ row 907 (eqb (le 4 (written_alone 2).hand.disk.image 44) 1)
+    ∷ row 908 (eqb (le 4 (written_alone 2).hand.disk.image 76) 0)
+    ∷ row 909 (both (eqb (header_of (written_alone 2).hand.disk.image).fats 1) (same_list (header_of (written_alone 2).hand.disk.image).list (0 ∷ replicate 108 free_sector)))
+    ∷ row 910 (both (eqb (le 4 (written_alone 2).hand.disk.image (start_of 512 0)) fat_sector) (eqb (open_no Strict (written_alone 2).hand.disk.image 1536 (shortest (lent 2))) 0))
+    ∷ row 911 (eqb (open_no Strict (image_alone 1) 512 (shortest (lent 1))) 0)
+    ∷ row 912 (eqb (room_of (state_len (state_alone 1)) (length (image_alone 1))) 1)
+    ∷ row 913 (eqb (write_no (state_alone 1) (image_alone 1) (tables_alone 1) 1 end_of_chain 0 1) 24)
     ∷ []
 
 -- case 10: Q with another entry of sector 3
-unfoldable pub imageWith : ℕ → List ℕ
-imageWith e = image_of (fatSector ∷ 2 ∷ 3 ∷ e ∷ freeSector ∷ freeSector ∷ [])
+unfoldable pub image_with : ℕ → List ℕ
+image_with e = image_of (fat_sector ∷ 2 ∷ 3 ∷ e ∷ free_sector ∷ free_sector ∷ [])
 
 -- 0xfffffffa: 15 strict, END permissive; 0xfffffffb: 17 in both
-unfoldable pub entryCase : List Row
-unfolding imageWith tablesAt
-entryCase =
-    row 1001 (eqb (openNo Strict (imageWith 0xffff_fffa) 3584 (shortest (lent 7))) 15)
-    ∷ row 1002 (eqb (openNo Permissive (imageWith 0xffff_fffa) 3584 (shortest (lent 7))) 0)
-    ∷ row 1003 (holds (tablesAt Permissive (imageWith 0xffff_fffa) 3584 7).fat (fatSector ∷ 2 ∷ 3 ∷ endOfChain ∷ freeSector ∷ freeSector ∷ []))
-    ∷ row 1011 (eqb (openNo Strict (imageWith 0xffff_fffb) 3584 (shortest (lent 7))) 17)
-    ∷ row 1012 (eqb (openNo Permissive (imageWith 0xffff_fffb) 3584 (shortest (lent 7))) 17)
+unfoldable pub entry_case : List Row
+unfolding image_with tables_at
+entry_case =
+    row 1001 (eqb (open_no Strict (image_with 0xffff_fffa) 3584 (shortest (lent 7))) 15)
+    ∷ row 1002 (eqb (open_no Permissive (image_with 0xffff_fffa) 3584 (shortest (lent 7))) 0)
+    ∷ row 1003 (holds (tables_at Permissive (image_with 0xffff_fffa) 3584 7).fat (fat_sector ∷ 2 ∷ 3 ∷ end_of_chain ∷ free_sector ∷ free_sector ∷ []))
+    ∷ row 1011 (eqb (open_no Strict (image_with 0xffff_fffb) 3584 (shortest (lent 7))) 17)
+    ∷ row 1012 (eqb (open_no Permissive (image_with 0xffff_fffb) 3584 (shortest (lent 7))) 17)
     ∷ []
 
 -- document 01, "Cases from the shelf", 1 to 10: a row's number is 100 times its case, and its part
 unfoldable pub rows : List Row
-unfolding imageRows openCase writeCase beyondCase resizeCase shrinkCase freeCase growCase startCase aloneCase entryCase
+unfolding image_rows open_case write_case beyond_case resize_case shrink_case free_case grow_case start_case alone_case entry_case
 rows =
-    imageRows ++ (openCase ++ (writeCase ++ (beyondCase ++ (resizeCase ++ (shrinkCase ++ (freeCase ++ (growCase ++ (startCase ++ (aloneCase ++ entryCase)))))))))
+    image_rows ++ (open_case ++ (write_case ++ (beyond_case ++ (resize_case ++ (shrink_case ++ (free_case ++ (grow_case ++ (start_case ++ (alone_case ++ entry_case)))))))))
 
 -- every row holds
-pub cases-hold : bad rows ≡ []
-unfolding bad rows state_of tablesLeft chainNo writeNo resizeNo chainFrom resized written stateFrom tablesIn start_in imageQ headerQ headerBytes headerOf number_at list_of idsThenFree versionOf unknown countsDirs dirsOf endIfFree initBytes refusal same_list part every tab digits le
-cases-hold = refl
+pub cases_hold : bad rows ≡ []
+unfolding bad rows state_of tables_left chain_no write_no resize_no chain_from resized written state_from tables_in start_in image_q header_q header_bytes header_of number_at list_of ids_then_free version_of unknown counts_dirs dirs_of end_if_free init_bytes refusal same_list part every tab digits le
+cases_hold = refl

@@ -76,8 +76,8 @@ abbrev pub found : Reader → ℕ
 found h = served_at h.bytes.now h.at
 
 -- what is known of the machine value that is returned
-abbrev pub Is-found : Reader → Val → Type 0
-Is-found h u = (u ≡ vint w32 (found h)) × (found h < 2 ^ 32)
+abbrev pub Is_found : Reader → Val → Type 0
+Is_found h u = (u ≡ vint w32 (found h)) × (found h < 2 ^ 32)
 
 module _ {M : Type 1} {𝓤 : Ura M} (𝓛 : Logic 𝓤) (mem-at : Memory → SProp 𝓤) (run : Routine → Fun 𝓤) (κ : Lft) (q : Share) (l : ℕ) where
   -- the lifetime of the call lies within κ
@@ -122,7 +122,7 @@ module _ {M : Type 1} {𝓤 : Ura M} (𝓛 : Logic 𝓤) (mem-at : Memory → SP
       at_once ! $ show ! (λ (y : ℕ × GName). sep 𝓤 ((Reads 𝓛 mem-at run).pre (to y.0 y.1 h)) (mean 𝓛 (kept y.0 y.1))) (a, δ) $ frame ! $ join ! $ done !))
 
   pub back : (a : ℕ) (δ : GName) (h h' : Reader) (u : Val) → stepped h ≡ h' → ent 𝓤 (⋆ 𝓛 (raw ((Reads 𝓛 mem-at run).post (to a δ h) u) ∷ kept a δ ∷ []))
-      (H.⇛ (guard 𝓤 (Is-found h u) (⋆ 𝓛 (‵ (cell κ l h') ∷ ‵ (own κ h') ∷ ‵ (flft κ q) ∷ []))))
+      (H.⇛ (guard 𝓤 (Is_found h u) (⋆ 𝓛 (‵ (cell κ l h') ∷ ‵ (own κ h') ∷ ‵ (flft κ q) ∷ []))))
   unfolding part_of
   back a δ h h' u e =
       qed 𝓛 (raw ((Reads 𝓛 mem-at run).post (to a δ h) u) ∷ kept a δ ∷ []) ∵ updating ! $
@@ -138,7 +138,7 @@ module _ {M : Type 1} {𝓤 : Ura M} (𝓛 : Logic 𝓤) (mem-at : Memory → SP
       move ! (2 ∷ 3 ∷ 4 ∷ []) $ use3 𝓛 (later (‵ ((mem (B κ)).own_at h' l 0))) (ref_back 𝓛 (B κ) (a ∷ κ) δ h' l 0) $ await ! tt $
       fpick ! (λ vs. fsplit ! $ spelt ! (B κ) (Is (B κ)) (shows 𝓛 (B κ)) (LL.vals (D κ) (L κ)) (LL.tells (D κ) (L κ)) full_share h' vs l 0 $
       use1 𝓛 (‵ (cell κ l h')) (𝓛.laws.raw_at full_share (T'.mir erased) l 0 (T'.lowered h')) $
-      at_once ! $ show ! (λ (_ : Is-found h u). ⋆ 𝓛 (‵ (cell κ l h') ∷ ‵ (own κ h') ∷ ‵ (flft κ q) ∷ [])) (ap only is.0 ∙ ap (vint w32) f.0, subst (λ (n : ℕ). n < 2 ^ 32) f.0 is.1) $ keep ! (0 ∷ 1 ∷ 2 ∷ []) $ done !)))))
+      at_once ! $ show ! (λ (_ : Is_found h u). ⋆ 𝓛 (‵ (cell κ l h') ∷ ‵ (own κ h') ∷ ‵ (flft κ q) ∷ [])) (ap only is.0 ∙ ap (vint w32) f.0, subst (λ (n : ℕ). n < 2 ^ 32) f.0 is.1) $ keep ! (0 ∷ 1 ∷ 2 ∷ []) $ done !)))))
 
 -- a call of `read_number` on the local, as a step of a walk: the local's cell, what the reader owns and κ's token stand at the head of the context, before it at h and after it at h'
 module _ {M : Type 1} {𝓤 : Ura M} {𝓛 : Logic 𝓤} {K : Type 0} {Γ : List (Item 𝓤)} {E : Env 𝓤 𝓛.H} {C : Calls 𝓤 𝓛.H} {Λ : Loops 𝓤 𝓛.H} {f : Name} {xs : List Opd} {d : Place} {rest : MBody} {p : Post 𝓤 𝓛.H} where
@@ -146,9 +146,9 @@ module _ {M : Type 1} {𝓤 : Ura M} {𝓛 : Logic 𝓤} {K : Type 0} {Γ : List
 
   pub serves : K → FmC 𝓤 H 𝓛.laws C → (mem-at : Memory → SProp 𝓤) (run : Routine → Fun 𝓤) → Triple 𝓤 (C f) (Reads 𝓛 mem-at run) → (κ : Lft) (q : Share) (l : ℕ) (h h' : Reader) → stepped h ≡ h'
       → ((y : ℕ × GName) → Opds K 𝓛 (raw ((Reads 𝓛 mem-at run).pre (to 𝓛 mem-at run κ q l y.0 y.1 h)) ∷ kept 𝓛 mem-at run κ q l y.0 y.1 ∷ Γ) E xs (vptr l 0 ∷ []))
-      → ((u : Val) → Is-found h u → Seq K 𝓛 (‵ (cell κ l h') ∷ ‵ (own κ h') ∷ ‵ (flft κ q) ∷ Γ) (lands C Λ E d u rest p))
+      → ((u : Val) → Is_found h u → Seq K 𝓛 (‵ (cell κ l h') ∷ ‵ (own κ h') ∷ ‵ (flft κ q) ∷ Γ) (lands C Λ E d u rest p))
       → Seq K 𝓛 (‵ (cell κ l h) ∷ ‵ (own κ h) ∷ ‵ (flft κ q) ∷ Γ) (runs C Λ E (seq (call f xs d) rest) p)
   serves t fm mem-at run known κ q l h h' on os k =
       use3 𝓛 (later (some (λ (y : ℕ × GName). raw ((Reads 𝓛 mem-at run).pre (to 𝓛 mem-at run κ q l y.0 y.1 h)) ⊛ kept 𝓛 mem-at run κ q l y.0 y.1))) (lends 𝓛 mem-at run κ q l h) $ await t tt $ pick t (λ y. split t $
       calls_at t fm (Reads 𝓛 mem-at run) known (to 𝓛 mem-at run κ q l y.0 y.1 h) (os y) (λ u.
-      use2 𝓛 (later (given (Is-found h u) (‵ (cell κ l h') ⊛ ‵ (own κ h') ⊛ ‵ (flft κ q)))) (back 𝓛 mem-at run κ q l y.0 y.1 h h' u on) $ await t tt $ learn t (λ e. split3 t $ k u e)))
+      use2 𝓛 (later (given (Is_found h u) (‵ (cell κ l h') ⊛ ‵ (own κ h') ⊛ ‵ (flft κ q)))) (back 𝓛 mem-at run κ q l y.0 y.1 h h' u on) $ await t tt $ learn t (λ e. split3 t $ k u e)))

@@ -1,8 +1,8 @@
 // A reader that holds a lent header and its place in the table of fields (MS-CFB 2.2). What it gives is had by functions
 // over a slice and a place, and a caller of `read_fields` sees no reader at all.
 ghost use Rattle.std.specs.Prelude.{◌≡◌};
-ghost use Rattle.fields.specs.Fields.{holdsNumber};
-ghost use Rattle.reader.specs.Serve.{served_at, placeAfter, stepped, numbersOf};
+ghost use Rattle.fields.specs.Fields.{holds_number};
+ghost use Rattle.reader.specs.Serve.{served_at, place_after, stepped, numbers_of};
 
 use fields::{ENTRIES, MINOR, RESERVED, number_at};
 
@@ -49,7 +49,7 @@ pub struct Numbers {
 
 // Whether the table has a number at a place.
 fn holds_number(place: usize) -> bool
-    ensures { result ≡ holdsNumber place }
+    ensures { result ≡ holds_number place }
 {
     if ENTRIES < place {
         return false;
@@ -75,7 +75,7 @@ fn served(b: &[u8], place: usize) -> u32
 
 // The place behind a field; behind the last one, the same place.
 fn place_after(place: usize) -> usize
-    ensures { result ≡ placeAfter place }
+    ensures { result ≡ place_after place }
 {
     if ENTRIES < place {
         return place;
@@ -104,7 +104,7 @@ impl<'a> Reader<'a> {
 
 // The numbers in the fields of lent bytes, read one after another by one reader; zeros where the bytes are fewer than a header's.
 pub fn read_fields(b: &[u8]) -> Numbers
-    ensures { result ≡ numbersOf b.now }
+    ensures { result ≡ numbers_of b.now }
 {
     let mut r = Reader::new(b, MINOR);
     let minor = r.read_number();

@@ -1,6 +1,6 @@
 // What a record of the list that the program `replay` reads holds, and the comparison of two headers.
 ghost use Rattle.std.specs.Prelude.{◌≡◌, true, ◌*◌, ◌≤◌, length};
-ghost use Rattle.records.specs.Records.{lengthIn, number_in, modeIn, numbersIn, headerIn};
+ghost use Rattle.records.specs.Records.{length_in, number_in, mode_in, numbers_in, header_in};
 
 use agree::alike;
 use header::{Header, Validation, Version};
@@ -11,7 +11,7 @@ pub const RECORD: usize = 1024;
 // The length of what a record lends: bytes 2 and 3.
 pub fn length_in(case: &[u8]) -> usize
     requires { length case.now ≡ 1024 }
-    ensures { result ≡ lengthIn case.now }
+    ensures { result ≡ length_in case.now }
 {
     words::read16(case, 2) as usize
 }
@@ -27,7 +27,7 @@ pub fn number_in(case: &[u8]) -> u32
 // The mode: byte 1, where 0 is permissive.
 pub fn mode_in(case: &[u8]) -> Validation
     requires { length case.now ≡ 1024 }
-    ensures { result ≡ modeIn case.now }
+    ensures { result ≡ mode_in case.now }
 {
     layout::mode_of(case[1] as u32)
 }
@@ -35,7 +35,7 @@ pub fn mode_in(case: &[u8]) -> Validation
 // Takes as many numbers of four bytes as `numbers` has places.
 pub fn take_numbers(held: &[u8], numbers: &mut [u32])
     requires { 4 * length numbers.old ≤ length held.now }
-    ensures { numbers.new ≡ numbersIn held.now (length numbers.old) }
+    ensures { numbers.new ≡ numbers_in held.now (length numbers.old) }
 {
     let mut i = 0;
     while i < numbers.len() {
@@ -47,7 +47,7 @@ pub fn take_numbers(held: &[u8], numbers: &mut [u32])
 // The header that 117 words hold beside a version.
 pub fn header_in(version: Version, held: &[u8]) -> Header
     requires { length held.now ≡ 468 }
-    ensures { result ≡ headerIn version held.now }
+    ensures { result ≡ header_in version held.now }
 {
     let mut words = [0u32; 117];
     take_numbers(held, &mut words);

@@ -3,11 +3,11 @@ use Rattle.std.specs.Prelude.{ℕ, ◌+◌, ◌-◌}
 use Rattle.fat.specs.Lists.{ceil}
 
 -- document 01, Resize: how many sectors the new length asks for more than there are
-unfoldable pub resizeMore : ℕ → ℕ → ℕ → ℕ
+unfoldable pub resize_more : ℕ → ℕ → ℕ → ℕ
 unfolding ceil
-resizeMore S count len = ceil len S - count
+resize_more S count len = ceil len S - count
 
 -- document 01, Write: how many sectors a write of so many bytes from an offset on asks for more than there are
-unfoldable pub writeMore : ℕ → ℕ → ℕ → ℕ → ℕ
+unfoldable pub write_more : ℕ → ℕ → ℕ → ℕ → ℕ
 unfolding ceil
-writeMore S count offset bytes = ceil (offset + bytes) S - count
+write_more S count offset bytes = ceil (offset + bytes) S - count

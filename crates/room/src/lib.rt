@@ -1,8 +1,8 @@
 // What a change needs, known before its first store (document 01, 24), for every length and offset, with no sum that can wrap.
 ghost use Rattle.std.specs.Prelude.{◌≡◌, ◌*◌, ◌≤◌, ◌<◌, leb};
 ghost use Rattle.fat.specs.Lists.{most, ceil as ceilOf};
-ghost use Rattle.room.specs.Needed.{resizeMore, writeMore};
-ghost use Rattle.disk.specs.Disk.{oneMore, countAfter};
+ghost use Rattle.room.specs.Needed.{resize_more, write_more};
+ghost use Rattle.disk.specs.Disk.{one_more, count_after};
 
 use disk::disk::needs_difat;
 
@@ -20,7 +20,7 @@ pub fn sectors_for(s: usize, bytes: u64) -> usize
 // How many sectors so many bytes ask for more than a chain of count has.
 pub fn sectors_over(s: usize, count: usize, bytes: u64) -> usize
     requires { (2 ≤ s) × (s ≤ 65536) }
-    ensures { result ≡ resizeMore s count bytes }
+    ensures { result ≡ resize_more s count bytes }
 {
     let need = sectors_for(s, bytes);
     if need <= count {
@@ -32,7 +32,7 @@ pub fn sectors_over(s: usize, count: usize, bytes: u64) -> usize
 // How many sectors a write of so many bytes from an offset within a chain of count sectors on asks for more.
 pub fn sectors_past(s: usize, count: usize, offset: usize, bytes: usize) -> usize
     requires { (2 ≤ s) × (s ≤ 65536) × (offset ≤ s * count) × (s * count < 18446744073709551616) }
-    ensures { result ≡ writeMore s count offset bytes }
+    ensures { result ≡ write_more s count offset bytes }
 {
     let rest = s * count - offset;
     if bytes <= rest {
@@ -44,7 +44,7 @@ pub fn sectors_past(s: usize, count: usize, offset: usize, bytes: usize) -> usiz
 // How many sectors there are after one more behind n for data, with the FAT and DIFAT sectors that come before it.
 fn one_more(s: usize, n: usize) -> usize
     requires { (512 ≤ s) × (s ≤ 65536) × (n ≤ 65536) }
-    ensures { result ≡ oneMore s n }
+    ensures { result ≡ one_more s n }
 {
     let each = s / 4;
     if n % each != 0 {
@@ -59,7 +59,7 @@ fn one_more(s: usize, n: usize) -> usize
 // Whether there are no more than room sectors after so many more behind n for data.
 pub fn has_room(s: usize, n: usize, more: usize, room: usize) -> bool
     requires { (512 ≤ s) × (s ≤ 65536) × (n ≤ room) × (room ≤ most) }
-    ensures { result ≡ leb (countAfter s n more) room }
+    ensures { result ≡ leb (count_after s n more) room }
 {
     if room - n < more {
         return false;

@@ -6,32 +6,32 @@ use native.Mathlib.Omega.{arith}
 use native.Mathlib.Nat.{mul-one, mul-le-mul_left, mul-le-mul_right, add-mul, one-mul, add-zero, mul-add-div_right, mul-add-mod_self_right, div-eq_of_lt, mod-eq_of_lt}
 use lib.ListN.{get_or, take, drop}
 use Rattle.lists.specs.Lists.{part}
-use Rattle.sectors.specs.Sectors.{sectorOf, perSector, entryIn, entry_of, Holds}
+use Rattle.sectors.specs.Sectors.{sector_of, per_sector, entry_in, entry_of, Holds}
 
 -- a number is at most its multiple
 pub scaled : (a s : ℕ) → 1 ≤ s → a ≤ a * s
 scaled a s h = rw mul-one at (mul-le-mul_left a h)
 
 -- a sector that was lent as a part of the image
-pub lent-sector : (S i : ℕ) (img : List ℕ) → take ((i + 1) * S + S - (i + 1) * S) (drop ((i + 1) * S) img) ≡ sectorOf S img i
-unfolding sectorOf part
-lent-sector S i img = let k : (i + 1) * S + S - (i + 1) * S ≡ S = omega arith in rw k
+pub lent_sector : (S i : ℕ) (img : List ℕ) → take ((i + 1) * S + S - (i + 1) * S) (drop ((i + 1) * S) img) ≡ sector_of S img i
+unfolding sector_of part
+lent_sector S i img = let k : (i + 1) * S + S - (i + 1) * S ≡ S = omega arith in rw k
 
 -- a sector below n lies within an image that holds n
-pub sector-within : (S n len i : ℕ) → Holds S n len → i < n → (i + 1) * S + S ≤ len
-sector-within S n len i h l =
+pub sector_within : (S n len i : ℕ) → Holds S n len → i < n → (i + 1) * S + S ≤ len
+sector_within S n len i h l =
     let m : (i + 1 + 1) * S ≤ (n + 1) * S = mul-le-mul_right S (omega arith) in
     omega (arith, add-mul (i + 1) 1 S, one-mul S, h.fits)
 
 -- the last entry of a sector
-pub last_within : (S n len : ℕ) → Holds S n len → 4 * (perSector S - 1) + 4 ≤ S
+pub last_within : (S n len : ℕ) → Holds S n len → 4 * (per_sector S - 1) + 4 ≤ S
 last_within S n len h = omega (arith, h.entries, h.two)
 
 -- an entry of the table, by its sector and its place in it
-pub entry-in-sector : (S : ℕ) (img ids : List ℕ) (p j : ℕ) → j < perSector S → entry_of S img ids (p * perSector S + j) ≡ entryIn (sectorOf S img (get_or ids p 0)) j
+pub entry_in_sector : (S : ℕ) (img ids : List ℕ) (p j : ℕ) → j < per_sector S → entry_of S img ids (p * per_sector S + j) ≡ entry_in (sector_of S img (get_or ids p 0)) j
 unfolding entry_of
-entry-in-sector S img ids p j h =
-    let pos : 1 ≤ perSector S = omega arith in
-    let quot : (p * perSector S + j) / perSector S ≡ p = mul-add-div_right {m = perSector S} pos p j ∙ rw (div-eq_of_lt h, add-zero) in
-    let rest : (p * perSector S + j) % perSector S ≡ j = mul-add-mod_self_right p (perSector S) j ∙ mod-eq_of_lt h in
+entry_in_sector S img ids p j h =
+    let pos : 1 ≤ per_sector S = omega arith in
+    let quot : (p * per_sector S + j) / per_sector S ≡ p = mul-add-div_right {m = per_sector S} pos p j ∙ rw (div-eq_of_lt h, add-zero) in
+    let rest : (p * per_sector S + j) % per_sector S ≡ j = mul-add-mod_self_right p (per_sector S) j ∙ mod-eq_of_lt h in
     rw (quot, rest)

@@ -2,8 +2,8 @@
 ghost use Rattle.std.specs.Prelude.{◌≡◌, ◌+◌, ◌*◌, ◌≤◌, length};
 ghost use Rattle.lists.specs.Lists.{splice};
 ghost use Rattle.words.specs.Words.{digits};
-ghost use Rattle.sectors.specs.Sectors.{start_of, perSector};
-ghost use Rattle.sectors.specs.Init.{initBytes};
+ghost use Rattle.sectors.specs.Sectors.{start_of, per_sector};
+ghost use Rattle.sectors.specs.Init.{init_bytes};
 ghost use Rattle.sectors.specs.declared.init.SectorInit.TheVariants.{Difat};
 
 // What a new sector is for.
@@ -38,8 +38,8 @@ pub fn put_at(image: &mut [u8], s: usize, id: usize, j: usize, v: u32)
 
 // Makes a sector a new DIFAT sector.
 fn init_difat(sector: &mut [u8])
-    requires { (length sector.old ≡ 4 * perSector (length sector.old)) × (1 ≤ perSector (length sector.old)) }
-    ensures { sector.new ≡ initBytes (length sector.old) Difat }
+    requires { (length sector.old ≡ 4 * per_sector (length sector.old)) × (1 ≤ per_sector (length sector.old)) }
+    ensures { sector.new ≡ init_bytes (length sector.old) Difat }
 {
     words::fill(sector, 255);
     let last = sector.len() / 4 - 1;
@@ -48,8 +48,8 @@ fn init_difat(sector: &mut [u8])
 
 // Makes a sector a new one.
 fn init_sector(sector: &mut [u8], init: SectorInit)
-    requires { (length sector.old ≡ 4 * perSector (length sector.old)) × (1 ≤ perSector (length sector.old)) }
-    ensures { sector.new ≡ initBytes (length sector.old) init }
+    requires { (length sector.old ≡ 4 * per_sector (length sector.old)) × (1 ≤ per_sector (length sector.old)) }
+    ensures { sector.new ≡ init_bytes (length sector.old) init }
 {
     match init {
         SectorInit::Zero => words::fill(sector, 0),
@@ -61,8 +61,8 @@ fn init_sector(sector: &mut [u8], init: SectorInit)
 // Makes sector id of an image a new one.
 pub fn init_at(image: &mut [u8], s: usize, id: usize, init: SectorInit)
     requires s_in_bounds { start_of s id + s ≤ length image.old }
-    requires s_value { (s ≡ 4 * perSector s) × (1 ≤ perSector s) }
-    ensures { image.new ≡ splice image.old (start_of s id) (initBytes s init) }
+    requires s_value { (s ≡ 4 * per_sector s) × (1 ≤ per_sector s) }
+    ensures { image.new ≡ splice image.old (start_of s id) (init_bytes s init) }
 {
     let a = (id + 1) * s;
     let b = a + s;

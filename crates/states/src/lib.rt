@@ -2,7 +2,7 @@
 pub mod told;
 
 ghost use Rattle.std.specs.Prelude.{◌≤◌, ◌≡◌, ◌++◌, true, replicate, drop};
-ghost use Rattle.states.specs.States.{modeNumber, stateWords, fitsIn, isVersion, holds, heldIn};
+ghost use Rattle.states.specs.States.{mode_number, state_words, fits_in, is_version, holds, held_in};
 
 use cfb::State;
 use header::Validation;
@@ -11,7 +11,7 @@ use layout::{header_with, mode_of, words_of};
 
 // The number of a mode: 0 is permissive, 1 strict.
 fn number_of_mode(mode: Validation) -> u64
-    ensures { result ≡ modeNumber mode }
+    ensures { result ≡ mode_number mode }
 {
     match mode {
         Validation::Permissive => 0,
@@ -41,7 +41,7 @@ fn state_with(header: [u32; 117]) -> [u64; 121]
 
 // The words of a state.
 pub fn words_of_state(s: State) -> [u64; 121]
-    ensures { result ≡ stateWords s }
+    ensures { result ≡ state_words s }
 {
     let header = s.header;
     let held = words_of(header);
@@ -56,7 +56,7 @@ pub fn words_of_state(s: State) -> [u64; 121]
 
 // Whether a word is the number of a version.
 fn is_version(word: u64) -> bool
-    ensures { result ≡ isVersion word }
+    ensures { result ≡ is_version word }
 {
     if word == 3 {
         return true;
@@ -66,7 +66,7 @@ fn is_version(word: u64) -> bool
 
 // Whether each of the header's words in a state's has 32 bits.
 fn fits(words: [u64; 121]) -> bool
-    ensures { result ≡ fitsIn (drop 4 words) }
+    ensures { result ≡ fits_in (drop 4 words) }
 {
     let mut i = 0;
     while i < 117 {
@@ -101,7 +101,7 @@ fn narrow(x: u64) -> u32
 
 // The header's words in a state's.
 fn header_words(words: [u64; 121]) -> [u32; 117]
-    requires { fitsIn (drop 4 words) ≡ true }
+    requires { fits_in (drop 4 words) ≡ true }
     ensures { result ≡ drop 4 words }
 {
     let mut held = [0u32; 117];
@@ -116,8 +116,8 @@ fn header_words(words: [u64; 121]) -> [u32; 117]
 // The state that words hold; they are its words.
 pub fn state_in(words: [u64; 121]) -> State
     requires { holds words ≡ true }
-    ensures value { result ≡ heldIn words }
-    ensures result_value { stateWords result ≡ words }
+    ensures value { result ≡ held_in words }
+    ensures result_value { state_words result ≡ words }
 {
     let held = header_words(words);
     let version = version_of(held[0]);

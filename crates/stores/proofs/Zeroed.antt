@@ -10,100 +10,100 @@ use borrow.Rule.Slice.PartMut.{put_mid}
 use lib.ListN.{length, get_or, take, drop, replicate, length-take, length-drop, length-replicate}
 use Rattle.lists.specs.Lists.{splice}
 use Rattle.lists.proofs.Cases.{below_or, same_or}
-use Rattle.lists.proofs.Splice.{length_part, putMid-splice}
-use Rattle.sectors.specs.Sectors.{start_of, sectorOf}
-use Rattle.chain.specs.Bytes.{chainBytes}
-use Rattle.stores.specs.Stores.{writeBytes, tailOf, zeroTail, Writable, Outside}
-use Rattle.stores.proofs.Stored.{write-length, write-chain, write-apart, write-sector, write-none, write-run}
-use Rattle.chain.proofs.Standing.{Stands, stands-byte, lent-run}
-use Rattle.stores.proofs.Writing.{sector-back}
+use Rattle.lists.proofs.Splice.{length_part, putMid_splice}
+use Rattle.sectors.specs.Sectors.{start_of, sector_of}
+use Rattle.chain.specs.Bytes.{chain_bytes}
+use Rattle.stores.specs.Stores.{write_bytes, tail_of, zero_tail, Writable, Outside}
+use Rattle.stores.proofs.Stored.{write_length, write_chain, write_apart, write_sector, write_none, write_run}
+use Rattle.chain.proofs.Standing.{Stands, stands_byte, lent_run}
+use Rattle.stores.proofs.Writing.{sector_back}
 
 -- zeros over the part that is lent for them
-pub zeroed-run : (sector out : List ℕ) (x : ℕ) → x ≤ length sector → out ≡ replicate (length (take (length sector - x) (drop x sector))) 0
+pub zeroed_run : (sector out : List ℕ) (x : ℕ) → x ≤ length sector → out ≡ replicate (length (take (length sector - x) (drop x sector))) 0
     → put_mid x (length sector - x) sector out ≡ splice sector x (replicate (length sector - x) 0)
-zeroed-run sector out x h e =
+zeroed_run sector out x h e =
     let lent : length (take (length sector - x) (drop x sector)) ≡ length sector - x = simp (length-take, length-drop) (omega arith) in
     let same : out ≡ replicate (length sector - x) 0 = e ∙ ap (λ (k : ℕ). replicate k 0) lent in
-    putMid-splice x (length sector - x) sector out (ap length same ∙ length-replicate {A = ℕ} (length sector - x) 0) ∙ ap (splice sector x) same
+    putMid_splice x (length sector - x) sector out (ap length same ∙ length-replicate {A = ℕ} (length sector - x) 0) ∙ ap (splice sector x) same
 
 -- a sector that was lent and comes back with zeros from x on
-pub zeros-back : (S id x : ℕ) (img out : List ℕ) → start_of S id + S ≤ length img → x ≤ S
+pub zeros_back : (S id x : ℕ) (img out : List ℕ) → start_of S id + S ≤ length img → x ≤ S
     → out ≡ splice (take (start_of S id + S - start_of S id) (drop (start_of S id) img)) x
     (replicate (length (take (start_of S id + S - start_of S id) (drop (start_of S id) img)) - x) 0)
     → put_mid (start_of S id) (start_of S id + S - start_of S id) img out ≡ splice img (start_of S id + x) (replicate (S - x) 0)
-zeros-back S id x img out h hx e =
+zeros_back S id x img out h hx e =
     let lent : length (take (start_of S id + S - start_of S id) (drop (start_of S id) img)) ≡ S =
-    ap length (lent-run img (start_of S id) S) ∙ length_part img (start_of S id) S h in
-    sector-back S id x img (replicate (S - x) 0) out h (rw (length-replicate {A = ℕ} (S - x) 0) (omega arith))
+    ap length (lent_run img (start_of S id) S) ∙ length_part img (start_of S id) S h in
+    sector_back S id x img (replicate (S - x) 0) out h (rw (length-replicate {A = ℕ} (S - x) 0) (omega arith))
     (e ∙ ap (λ (k : ℕ). splice (take (start_of S id + S - start_of S id) (drop (start_of S id) img)) x (replicate (k - x) 0)) lent)
 
-pub tail_none : (S o : ℕ) → o % S ≡ 0 → tailOf S o ≡ 0
-unfolding tailOf
+pub tail_none : (S o : ℕ) → o % S ≡ 0 → tail_of S o ≡ 0
+unfolding tail_of
 tail_none S o e = rw (eq-eqb (o % S) 0 e)
 
-pub tail-some : (S o : ℕ) → o % S ≢ 0 → tailOf S o ≡ S - o % S
-unfolding tailOf
-tail-some S o n = rw (ne_eqb (o % S) 0 n)
+pub tail_some : (S o : ℕ) → o % S ≢ 0 → tail_of S o ≡ S - o % S
+unfolding tail_of
+tail_some S o n = rw (ne_eqb (o % S) 0 n)
 
 -- an offset within a sector of the chain: that sector is listed
-pub tail-place : (S o n : ℕ) → o % S ≢ 0 → o ≤ S * n → o / S < n
-tail-place S o n some h =
+pub tail_place : (S o n : ℕ) → o % S ≢ 0 → o ≤ S * n → o / S < n
+tail_place S o n some h =
     ⊎_elim
     (λ (l : o / S < n). l)
     (λ (g : n ≤ o / S). let m : S * n ≤ S * (o / S) = mul-le-mul_left S g in absurd (omega (arith, div-add-mod o S)))
     (below_or (o / S) n)
 
 -- the sector that has a byte of the chain belongs to it whole
-pub tail-fits : (S o n : ℕ) → 0 < S → o ≤ S * n → o + tailOf S o ≤ S * n
-tail-fits S o n pos h =
+pub tail_fits : (S o n : ℕ) → 0 < S → o ≤ S * n → o + tail_of S o ≤ S * n
+tail_fits S o n pos h =
     ⊎_elim
     (λ (e : o % S ≡ 0). omega (arith, tail_none S o e))
     (λ (d : o % S ≢ 0).
-    let m : S * suc (o / S) ≤ S * n = mul-le-mul_left S (tail-place S o n d h) in
-    omega (arith, tail-some S o d, mul-suc S (o / S), div-add-mod o S, mod-lt o pos))
+    let m : S * suc (o / S) ≤ S * n = mul-le-mul_left S (tail_place S o n d h) in
+    omega (arith, tail_some S o d, mul-suc S (o / S), div-add-mod o S, mod-lt o pos))
     (same_or (o % S) 0)
 
 -- so what can be written up to an offset can be zeroed from it on
-pub writable-tail : (S len : ℕ) (ids : List ℕ) (o : ℕ) → Writable S len ids o 0 → Writable S len ids o (length {A = ℕ} (replicate (tailOf S o) 0))
-writable-tail S len ids o w = record {
+pub writable_tail : (S len : ℕ) (ids : List ℕ) (o : ℕ) → Writable S len ids o 0 → Writable S len ids o (length {A = ℕ} (replicate (tail_of S o) 0))
+writable_tail S len ids o w = record {
   lies = w.lies;
   apart = w.apart;
-  fits = rw (length-replicate {A = ℕ} (tailOf S o) 0) (tail-fits S o (length ids) w.lies.some (omega (arith, w.fits)));
+  fits = rw (length-replicate {A = ℕ} (tail_of S o) 0) (tail_fits S o (length ids) w.lies.some (omega (arith, w.fits)));
 }
 
 -- an offset within a sector stands in one of the chain
-pub zero-stands : {S len : ℕ} {ids : List ℕ} {o : ℕ} → Writable S len ids o 0 → o % S ≢ 0 → Stands S len ids o
-zero-stands {S} {len} {ids} {o} w d = record { lies = w.lies; place = tail-place S o (length ids) d (omega (arith, w.fits)) }
+pub zero_stands : {S len : ℕ} {ids : List ℕ} {o : ℕ} → Writable S len ids o 0 → o % S ≢ 0 → Stands S len ids o
+zero_stands {S} {len} {ids} {o} w d = record { lies = w.lies; place = tail_place S o (length ids) d (omega (arith, w.fits)) }
 
 -- the zeros: the image's length, the chain's bytes, and what they leave alone
 module _ (S : ℕ) (img ids : List ℕ) (o : ℕ) (w : Writable S (length img) ids o 0) where
-  pub zero-length : length (zeroTail S img ids o) ≡ length img
-  unfolding zeroTail
-  zero-length = write-length S img ids o (replicate (tailOf S o) 0) (writable-tail S (length img) ids o w)
+  pub zero_length : length (zero_tail S img ids o) ≡ length img
+  unfolding zero_tail
+  zero_length = write_length S img ids o (replicate (tail_of S o) 0) (writable_tail S (length img) ids o w)
 
-  pub zero-chain : chainBytes S (zeroTail S img ids o) ids ≡ splice (chainBytes S img ids) o (replicate (tailOf S o) 0)
-  unfolding zeroTail
-  zero-chain = write-chain S img ids o (replicate (tailOf S o) 0) (writable-tail S (length img) ids o w)
+  pub zero_chain : chain_bytes S (zero_tail S img ids o) ids ≡ splice (chain_bytes S img ids) o (replicate (tail_of S o) 0)
+  unfolding zero_tail
+  zero_chain = write_chain S img ids o (replicate (tail_of S o) 0) (writable_tail S (length img) ids o w)
 
-  pub zero-apart : (b : ℕ) → Outside S ids b → get_or (zeroTail S img ids o) b 0 ≡ get_or img b 0
-  unfolding zeroTail
-  zero-apart = write-apart S img ids o (replicate (tailOf S o) 0) (writable-tail S (length img) ids o w)
+  pub zero_apart : (b : ℕ) → Outside S ids b → get_or (zero_tail S img ids o) b 0 ≡ get_or img b 0
+  unfolding zero_tail
+  zero_apart = write_apart S img ids o (replicate (tail_of S o) 0) (writable_tail S (length img) ids o w)
 
-  pub zero-sector : (j : ℕ) → start_of S j + S ≤ length img → ((i : ℕ) → i < length ids → get_or ids i 0 ≢ j) → sectorOf S (zeroTail S img ids o) j ≡ sectorOf S img j
-  unfolding zeroTail
-  zero-sector = write-sector S img ids o (replicate (tailOf S o) 0) (writable-tail S (length img) ids o w)
+  pub zero_sector : (j : ℕ) → start_of S j + S ≤ length img → ((i : ℕ) → i < length ids → get_or ids i 0 ≢ j) → sector_of S (zero_tail S img ids o) j ≡ sector_of S img j
+  unfolding zero_tail
+  zero_sector = write_sector S img ids o (replicate (tail_of S o) 0) (writable_tail S (length img) ids o w)
 
   -- where a sector begins nothing is zeroed
-  pub zero-begins : o % S ≡ 0 → zeroTail S img ids o ≡ img
-  unfolding zeroTail
-  zero-begins e = ap (λ (k : ℕ). writeBytes S img ids o (replicate k 0)) (tail_none S o e) ∙ write-none S img ids o w
+  pub zero_begins : o % S ≡ 0 → zero_tail S img ids o ≡ img
+  unfolding zero_tail
+  zero_begins e = ap (λ (k : ℕ). write_bytes S img ids o (replicate k 0)) (tail_none S o e) ∙ write_none S img ids o w
 
   -- elsewhere the zeros stand in one sector
-  pub zero-run : o % S ≢ 0 → (after : List ℕ) → after ≡ splice img (start_of S (get_or ids (o / S) 0) + o % S) (replicate (S - o % S) 0) → after ≡ zeroTail S img ids o
-  unfolding zeroTail
-  zero-run d after e =
+  pub zero_run : o % S ≢ 0 → (after : List ℕ) → after ≡ splice img (start_of S (get_or ids (o / S) 0) + o % S) (replicate (S - o % S) 0) → after ≡ zero_tail S img ids o
+  unfolding zero_tail
+  zero_run d after e =
       e
-      ∙ ap (λ (k : ℕ). splice img (start_of S (get_or ids (o / S) 0) + o % S) (replicate k 0)) (sym (tail-some S o d))
-      ∙ write-run S img ids o (replicate (tailOf S o) 0) (writable-tail S (length img) ids o w)
-      (zero-stands w d).place
-      (rw (length-replicate {A = ℕ} (tailOf S o) 0) (omega (arith, tail-some S o d, stands-byte (zero-stands w d))))
+      ∙ ap (λ (k : ℕ). splice img (start_of S (get_or ids (o / S) 0) + o % S) (replicate k 0)) (sym (tail_some S o d))
+      ∙ write_run S img ids o (replicate (tail_of S o) 0) (writable_tail S (length img) ids o w)
+      (zero_stands w d).place
+      (rw (length-replicate {A = ℕ} (tail_of S o) 0) (omega (arith, tail_some S o d, stands_byte (zero_stands w d))))

@@ -2,27 +2,27 @@
 use Rattle.std.specs.Prelude.{ℕ, ◌+◌, ◌-◌, ◌*◌, ◌%◌, ◌≤◌, ◌<◌, ◌≡◌, List, [], ◌∷◌, ◌⊎◌, eqb, length, get_or, take, drop, replicate}
 use Rattle.lists.specs.Lists.{choose, splice}
 use Rattle.sectors.specs.Sectors.{start_of}
-use Rattle.chain.specs.Bytes.{chainBytes, Lies}
+use Rattle.chain.specs.Bytes.{chain_bytes, Lies}
 
 -- document 01, Write: bytes put back into a chain's sectors, a sector's length into each, in order
-unfoldable pub putChain : ℕ → List ℕ → List ℕ → List ℕ → List ℕ
+unfoldable pub put_chain : ℕ → List ℕ → List ℕ → List ℕ → List ℕ
 unfolding splice
-putChain S img [] bytes = img
-putChain S img (i ∷ is) bytes = putChain S (splice img (start_of S i) (take S bytes)) is (drop S bytes)
+put_chain S img [] bytes = img
+put_chain S img (i ∷ is) bytes = put_chain S (splice img (start_of S i) (take S bytes)) is (drop S bytes)
 
 -- document 01, Write: a write is read, edit, put back: the chain's bytes with xs over them from the offset on
-unfoldable pub writeBytes : ℕ → List ℕ → List ℕ → ℕ → List ℕ → List ℕ
-unfolding putChain splice chainBytes
-writeBytes S img ids offset xs = putChain S img ids (splice (chainBytes S img ids) offset xs)
+unfoldable pub write_bytes : ℕ → List ℕ → List ℕ → ℕ → List ℕ → List ℕ
+unfolding put_chain splice chain_bytes
+write_bytes S img ids offset xs = put_chain S img ids (splice (chain_bytes S img ids) offset xs)
 
 -- document 01, Resize: how many bytes follow an offset in its sector: none where a sector begins
-unfoldable pub tailOf : ℕ → ℕ → ℕ
-tailOf S o = choose (eqb (o % S) 0) 0 (S - o % S)
+unfoldable pub tail_of : ℕ → ℕ → ℕ
+tail_of S o = choose (eqb (o % S) 0) 0 (S - o % S)
 
 -- document 01, Resize: bytes from the new length to the end of its sector are zeroed
-unfoldable pub zeroTail : ℕ → List ℕ → List ℕ → ℕ → List ℕ
-unfolding writeBytes tailOf
-zeroTail S img ids o = writeBytes S img ids o (replicate (tailOf S o) 0)
+unfoldable pub zero_tail : ℕ → List ℕ → List ℕ → ℕ → List ℕ
+unfolding write_bytes tail_of
+zero_tail S img ids o = write_bytes S img ids o (replicate (tail_of S o) 0)
 
 -- a chain that can be written: it lies in the image, no sector is listed twice, and the run fits
 pub record Writable (S len : ℕ) (ids : List ℕ) (offset count : ℕ) : Type 0 where

@@ -3,7 +3,7 @@
 ghost use Rattle.std.specs.Prelude.{◌≡◌, ◌+◌, ◌-◌, ◌≤◌, ◌<◌, length, replicate};
 ghost use Rattle.lists.specs.Lists.{splice};
 ghost use Rattle.sectors.specs.Sectors.{start_of};
-ghost use Rattle.stores.specs.Stores.{writeBytes, zeroTail, Writable};
+ghost use Rattle.stores.specs.Stores.{write_bytes, zero_tail, Writable};
 
 use fat::load::lesser;
 
@@ -30,7 +30,7 @@ fn write_at(image: &mut [u8], s: usize, id: usize, x: usize, run: &[u8])
 // Writes buf over the chain's bytes from the offset on, a run within a sector at a time.
 pub fn write(image: &mut [u8], s: usize, ids: &[u32], offset: usize, buf: &[u8])
     requires { Writable s (length image.old) ids.now offset (length buf.now) }
-    ensures { image.new ≡ writeBytes s image.old ids.now offset buf.now }
+    ensures { image.new ≡ write_bytes s image.old ids.now offset buf.now }
 {
     let mut done = 0;
     while done < buf.len() {
@@ -65,7 +65,7 @@ fn zero_at(image: &mut [u8], s: usize, id: usize, x: usize)
 // Zeros the chain's bytes from the offset to the end of its sector; nothing where a sector begins.
 pub fn zero_tail(image: &mut [u8], s: usize, ids: &[u32], offset: usize)
     requires { Writable s (length image.old) ids.now offset 0 }
-    ensures { image.new ≡ zeroTail s image.old ids.now offset }
+    ensures { image.new ≡ zero_tail s image.old ids.now offset }
 {
     let x = offset % s;
     if x == 0 {

@@ -9,48 +9,48 @@ use borrow.Author.Tests.{lt-ltb, le-ltb}
 use lib.ListN.{length, get_or, length-append, get_or-append}
 use lib.Seq.{get_or_at}
 use Rattle.lists.proofs.Cases.{below_or}
-use Rattle.texts.specs.Text.{digits, decimalOf}
+use Rattle.texts.specs.Text.{digits, decimal_of}
 
 -- a number of one digit, and of more
-digits-one : (f n : ℕ) → n < 10 → digits f n ≡ (48 + n) ∷ []
+digits_one : (f n : ℕ) → n < 10 → digits f n ≡ (48 + n) ∷ []
 unfolding digits
-digits-one zero n h = refl
-digits-one (suc f) n h = rw (lt-ltb n 10 h)
+digits_one zero n h = refl
+digits_one (suc f) n h = rw (lt-ltb n 10 h)
 
 digits_more : (f n : ℕ) → 10 ≤ n → digits (suc f) n ≡ digits f (n / 10) ++ ((48 + n % 10) ∷ [])
 unfolding digits
 digits_more f n h = rw (le-ltb n 10 h)
 
 -- more fuel than enough changes nothing
-digits-fuel : (f g n : ℕ) → n ≤ f → n ≤ g → digits f n ≡ digits g n
-digits-fuel zero g n hf hg = digits-one zero n (omega arith) ∙ sym (digits-one g n (omega arith))
-digits-fuel (suc f) zero n hf hg = digits-one (suc f) n (omega arith) ∙ sym (digits-one zero n (omega arith))
-digits-fuel (suc f) (suc g) n hf hg =
+digits_fuel : (f g n : ℕ) → n ≤ f → n ≤ g → digits f n ≡ digits g n
+digits_fuel zero g n hf hg = digits_one zero n (omega arith) ∙ sym (digits_one g n (omega arith))
+digits_fuel (suc f) zero n hf hg = digits_one (suc f) n (omega arith) ∙ sym (digits_one zero n (omega arith))
+digits_fuel (suc f) (suc g) n hf hg =
     ⊎_elim
-    (λ (low : n < 10). digits-one (suc f) n low ∙ sym (digits-one (suc g) n low))
+    (λ (low : n < 10). digits_one (suc f) n low ∙ sym (digits_one (suc g) n low))
     (λ (high : 10 ≤ n).
     digits_more f n high
-    ∙ ap (λ (l : List ℕ). l ++ ((48 + n % 10) ∷ [])) (digits-fuel f g (n / 10) (omega arith) (omega arith))
+    ∙ ap (λ (l : List ℕ). l ++ ((48 + n % 10) ∷ [])) (digits_fuel f g (n / 10) (omega arith) (omega arith))
     ∙ sym (digits_more g n high))
     (below_or n 10)
 
-pub decimal-one : (n : ℕ) → n < 10 → decimalOf n ≡ (48 + n) ∷ []
-unfolding decimalOf
-decimal-one n h = digits-one n n h
+pub decimal_one : (n : ℕ) → n < 10 → decimal_of n ≡ (48 + n) ∷ []
+unfolding decimal_of
+decimal_one n h = digits_one n n h
 
-pub decimal-more : (n : ℕ) → 10 ≤ n → decimalOf n ≡ decimalOf (n / 10) ++ ((48 + n % 10) ∷ [])
-unfolding decimalOf
-decimal-more n h =
-    digits-fuel n (suc n) n (omega arith) (omega arith)
+pub decimal_more : (n : ℕ) → 10 ≤ n → decimal_of n ≡ decimal_of (n / 10) ++ ((48 + n % 10) ∷ [])
+unfolding decimal_of
+decimal_more n h =
+    digits_fuel n (suc n) n (omega arith) (omega arith)
     ∙ digits_more n n h
-    ∙ ap (λ (l : List ℕ). l ++ ((48 + n % 10) ∷ [])) (digits-fuel n (n / 10) (n / 10) (omega arith) (omega arith))
+    ∙ ap (λ (l : List ℕ). l ++ ((48 + n % 10) ∷ [])) (digits_fuel n (n / 10) (n / 10) (omega arith) (omega arith))
 
 -- the number of digits
-pub decimal-length-one : (n : ℕ) → n < 10 → length (decimalOf n) ≡ 1
-decimal-length-one n h = ap length (decimal-one n h)
+pub decimal_length_one : (n : ℕ) → n < 10 → length (decimal_of n) ≡ 1
+decimal_length_one n h = ap length (decimal_one n h)
 
-pub decimal-length-more : (n : ℕ) → 10 ≤ n → length (decimalOf n) ≡ length (decimalOf (n / 10)) + 1
-decimal-length-more n h = ap length (decimal-more n h) ∙ length-append (decimalOf (n / 10)) ((48 + n % 10) ∷ [])
+pub decimal_length_more : (n : ℕ) → 10 ≤ n → length (decimal_of n) ≡ length (decimal_of (n / 10)) + 1
+decimal_length_more n h = ap length (decimal_more n h) ∙ length-append (decimal_of (n / 10)) ((48 + n % 10) ∷ [])
 
 -- what holds of one digit, and of a number with one digit more, holds of every number
 pub by_digits : (P : ℕ → Type 0) → ((n : ℕ) → n < 10 → P n) → ((n : ℕ) → 10 ≤ n → P (n / 10) → P n) → (n : ℕ) → P n
@@ -62,41 +62,41 @@ by_digits P one more n = go n n (omega arith)
         ⊎_elim (λ (low : n < 10). one n low) (λ (high : 10 ≤ n). more n high (go f (n / 10) (omega arith))) (below_or n 10)
 
 -- a number below 10 ^ (k + 1) has at most k + 1 digits
-pub decimal-short : (k n : ℕ) → n < 10 ^ suc k → length (decimalOf n) ≤ suc k
-decimal-short zero n h = rw (decimal-one n h) (omega arith)
-decimal-short (suc k) n h =
+pub decimal_short : (k n : ℕ) → n < 10 ^ suc k → length (decimal_of n) ≤ suc k
+decimal_short zero n h = rw (decimal_one n h) (omega arith)
+decimal_short (suc k) n h =
     let p : n < 10 ^ suc k * 10 = rw (pow-suc) at h in
     ⊎_elim
-    (λ (low : n < 10). rw (decimal-one n low) (omega arith))
+    (λ (low : n < 10). rw (decimal_one n low) (omega arith))
     (λ (high : 10 ≤ n).
-    let m : length (decimalOf (n / 10)) ≤ suc k = decimal-short k (n / 10) (omega arith) in
-    rw (decimal-more n high, length-append) (omega arith))
+    let m : length (decimal_of (n / 10)) ≤ suc k = decimal_short k (n / 10) (omega arith) in
+    rw (decimal_more n high, length-append) (omega arith))
     (below_or n 10)
 
 -- a usize has at most 20 digits, a u32 at most 10
-pub decimal-of-usize : (n : ℕ) → n < 2 ^ 64 → length (decimalOf n) ≤ 20
-decimal-of-usize n h = decimal-short 19 n (omega arith)
+pub decimal_of_usize : (n : ℕ) → n < 2 ^ 64 → length (decimal_of n) ≤ 20
+decimal_of_usize n h = decimal_short 19 n (omega arith)
 
-pub decimal-of-u32 : (n : ℕ) → n < 2 ^ 32 → length (decimalOf n) ≤ 10
-decimal-of-u32 n h = decimal-short 9 n (omega arith)
+pub decimal_of_u32 : (n : ℕ) → n < 2 ^ 32 → length (decimal_of n) ≤ 10
+decimal_of_u32 n h = decimal_short 9 n (omega arith)
 
 -- the number that digits read as, after a front that reads as a
 unfoldable pub read_on : ℕ → List ℕ → ℕ
 read_on a [] = a
 read_on a (d ∷ ds) = read_on (a * 10 + (d - 48)) ds
 
-read-snoc : (a : ℕ) (ds : List ℕ) (d : ℕ) → read_on a (ds ++ (d ∷ [])) ≡ read_on a ds * 10 + (d - 48)
+read_snoc : (a : ℕ) (ds : List ℕ) (d : ℕ) → read_on a (ds ++ (d ∷ [])) ≡ read_on a ds * 10 + (d - 48)
 unfolding read_on
-read-snoc a [] d = refl
-read-snoc a (e ∷ ds) d = read-snoc (a * 10 + (e - 48)) ds d
+read_snoc a [] d = refl
+read_snoc a (e ∷ ds) d = read_snoc (a * 10 + (e - 48)) ds d
 
 -- the digits of n read as n
-pub decimal-reads : (n : ℕ) → read_on 0 (decimalOf n) ≡ n
+pub decimal_reads : (n : ℕ) → read_on 0 (decimal_of n) ≡ n
 unfolding read_on
-decimal-reads =
-    by_digits (λ n. read_on 0 (decimalOf n) ≡ n)
-    (λ n h. rw (decimal-one n h) (omega arith))
-    (λ n h e. rw (decimal-more n h, read-snoc) (omega arith))
+decimal_reads =
+    by_digits (λ n. read_on 0 (decimal_of n) ≡ n)
+    (λ n h. rw (decimal_one n h) (omega arith))
+    (λ n h e. rw (decimal_more n h, read_snoc) (omega arith))
 
 -- each is a digit, there is one at least, and the first is 0 only of 0
 pub record Digits (n : ℕ) (ds : List ℕ) : Type 0 where
@@ -104,15 +104,15 @@ pub record Digits (n : ℕ) (ds : List ℕ) : Type 0 where
   pub each : (i : ℕ) → i < length ds → (48 ≤ get_or ds i 0) × (get_or ds i 0 ≤ 57)
   pub front : 0 < n → 48 < get_or ds 0 0
 
-digit-alone : (n : ℕ) → n < 10 → Digits n ((48 + n) ∷ [])
-digit-alone n h = record {
+digit_alone : (n : ℕ) → n < 10 → Digits n ((48 + n) ∷ [])
+digit_alone n h = record {
   some = omega arith;
   each = λ i hi. let z : i ≡ 0 = omega arith in rw z (omega arith, omega arith);
   front = λ p. omega arith;
 }
 
-digit-more : (n m d : ℕ) (ds : List ℕ) → 0 < m → d < 10 → Digits m ds → Digits n (ds ++ ((48 + d) ∷ []))
-digit-more n m d ds pos small k = record {
+digit_more : (n m d : ℕ) (ds : List ℕ) → 0 < m → d < 10 → Digits m ds → Digits n (ds ++ ((48 + d) ∷ []))
+digit_more n m d ds pos small k = record {
   some = rw length-append (omega arith);
   each = λ i hi. at i (rw length-append at hi) (below_or i (length ds));
   front = λ p. rw (get_or-append ds ((48 + d) ∷ []) 0 0 k.some) (k.front pos);
@@ -125,8 +125,8 @@ digit-more n m d ds pos small k = record {
         let g : get_or (ds ++ ((48 + d) ∷ [])) i 0 ≡ 48 + d = get_or_at ds (48 + d) [] 0 i (sym e) in
         rw g (omega arith, omega arith)
 
-pub decimal-digits : (n : ℕ) → Digits n (decimalOf n)
-decimal-digits =
-    by_digits (λ n. Digits n (decimalOf n))
-    (λ n h. rw (decimal-one n h) (digit-alone n h))
-    (λ n h k. rw (decimal-more n h) (digit-more n (n / 10) (n % 10) (decimalOf (n / 10)) (omega arith) (omega arith) k))
+pub decimal_digits : (n : ℕ) → Digits n (decimal_of n)
+decimal_digits =
+    by_digits (λ n. Digits n (decimal_of n))
+    (λ n h. rw (decimal_one n h) (digit_alone n h))
+    (λ n h k. rw (decimal_more n h) (digit_more n (n / 10) (n % 10) (decimal_of (n / 10)) (omega arith) (omega arith) k))

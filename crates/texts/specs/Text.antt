@@ -13,19 +13,19 @@ digits (suc f) n =
     choose (ltb n 10) ((48 + n) ∷ []) (front ++ ((48 + n % 10) ∷ []))
 
 -- `{n}`: the decimal digits of n, with no zero in front.
-unfoldable pub decimalOf : ℕ → List ℕ
+unfoldable pub decimal_of : ℕ → List ℕ
 unfolding digits
-decimalOf n = digits n n
+decimal_of n = digits n n
 
 -- `Free(1)` and `Free(n)`: the word for one, and the count, a space and the word for any other count.
 unfoldable pub count_of : ℕ → List ℕ → List ℕ
-unfolding decimalOf
-count_of n word = choose (eqb n 1) word (decimalOf n ++ (32 ∷ word))
+unfolding decimal_of
+count_of n word = choose (eqb n 1) word (decimal_of n ++ (32 ∷ word))
 
 -- `Range(start, end)`: one number, or `start..=end`.
 unfoldable pub range_of : ℕ → ℕ → List ℕ
-unfolding decimalOf
-range_of a b = choose (eqb a b) (decimalOf a) (decimalOf a ++ (46 ∷ 46 ∷ 61 ∷ decimalOf b))
+unfolding decimal_of
+range_of a b = choose (eqb a b) (decimal_of a) (decimal_of a ++ (46 ∷ 46 ∷ 61 ∷ decimal_of b))
 
 -- `Debug` of `Sector`: the word FREE.
 abbrev pub free : List ℕ

@@ -1,6 +1,6 @@
 // The text of an item of the short list as the Rust's `Debug` writes it, and the decimal digits of a number.
 ghost use Rattle.std.specs.Prelude.{◌≡◌, ◌+◌, ◌≤◌, length};
-ghost use Rattle.texts.specs.Text.{decimalOf, count_of, range_of, text_of, written, Put};
+ghost use Rattle.texts.specs.Text.{decimal_of, count_of, range_of, text_of, written, Put};
 
 use consts::Sector;
 
@@ -26,8 +26,8 @@ fn put_bytes(buf: &mut [u8], at: usize, word: &[u8]) -> usize
 
 // Puts `n` in decimal at `at` and gives the place past it.
 fn put_decimal(buf: &mut [u8], at: usize, n: usize) -> usize
-    requires { at + length (decimalOf n) ≤ length buf.old }
-    ensures { Put buf.old at (decimalOf n) result buf.new }
+    requires { at + length (decimal_of n) ≤ length buf.old }
+    ensures { Put buf.old at (decimal_of n) result buf.new }
 {
     if n < 10 {
         buf[at] = 48 + n as u8;
@@ -99,7 +99,7 @@ pub fn text_of(s: Sector) -> Text
 
 // The decimal digits of a number, as a text.
 pub fn digits_of(n: usize) -> Text
-    ensures { result ≡ written (decimalOf n) }
+    ensures { result ≡ written (decimal_of n) }
 {
     let mut bytes = [0u8; 32];
     let len = put_decimal(&mut bytes, 0, n);

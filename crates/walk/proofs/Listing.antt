@@ -9,26 +9,26 @@ use native.Mathlib.Numerals.{add-one}
 use lib.ListN.{length, get_or, set, take, drop}
 use lib.Seq.{take_at, drop_at}
 use Rattle.lists.specs.Lists.{tab}
-use Rattle.lists.proofs.Tab.{length-tab, filled_none, filled_more, length-filled}
-use Rattle.consts.specs.Consts.{maxRegular, endOfChain}
+use Rattle.lists.proofs.Tab.{length_tab, filled_none, filled_more, length_filled}
+use Rattle.consts.specs.Consts.{max_regular, end_of_chain}
 use Rattle.walk.specs.Walk.{Outcome, lists, refuses, leads, walk_of}
 use Rattle.walk.specs.Walked.{answer_of, Walkable, WalkLeft}
 use Rattle.walk.specs.declared.Walked.{Walked}
 use Rattle.walk.specs.declared.Walked.TheVariants.{Listed, Refused}
 use Rattle.walk.specs.Steps.{stepped}
-use Rattle.walk.proofs.Steps.{stepped-next, stepped-none, Going, going-none, going_more, going-most}
-use Rattle.walk.proofs.Walking.{leads-true, leads-false, walk-past, walk-back, walk-bad, walk_ends}
+use Rattle.walk.proofs.Steps.{stepped_next, stepped_none, Going, going_none, going_more, going_most}
+use Rattle.walk.proofs.Walking.{leads_true, leads_false, walk_past, walk_back, walk_bad, walk_ends}
 
 -- what is left where the walk's outcome is known
-left-refuses : (fat : List ℕ) (start : ℕ) (before after : List ℕ) (r : ℕ) → walk_of fat start ≡ refuses r → WalkLeft fat start before (Refused r) after
+left_refuses : (fat : List ℕ) (start : ℕ) (before after : List ℕ) (r : ℕ) → walk_of fat start ≡ refuses r → WalkLeft fat start before (Refused r) after
 unfolding answer_of
-left-refuses fat start before after r w =
+left_refuses fat start before after r w =
     record { answer = rw w; front = λ ids e. let z : ◌≡◌ {A = ℕ} 0 1 = cc in absurd (omega arith) }
 
-left-lists : (fat : List ℕ) (start : ℕ) (before after ids : List ℕ) (k : ℕ) → walk_of fat start ≡ lists ids → length ids ≡ k → after ≡ ids ++ drop k before
+left_lists : (fat : List ℕ) (start : ℕ) (before after ids : List ℕ) (k : ℕ) → walk_of fat start ≡ lists ids → length ids ≡ k → after ≡ ids ++ drop k before
     → WalkLeft fat start before (Listed k) after
 unfolding answer_of
-left-lists fat start before after ids k w e a =
+left_lists fat start before after ids k w e a =
     record { answer = rw (w, e); front = λ l h. let same : l ≡ ids = cc in rw (same, e) a }
 
 -- where the loop stands: count steps are taken and listed, and id, where they lead, is END or a sector and not the start
@@ -40,91 +40,91 @@ pub record Walks (fat : List ℕ) (start : ℕ) (before ids : List ℕ) (id coun
   pub fresh : 0 < count → id ≢ start
   pub list : ids ≡ tab (stepped fat start) count ++ drop count before
 
-pub walks-begun : (fat : List ℕ) (start : ℕ) (before : List ℕ) → Walkable fat before → leads (length fat) start ≡ true → Walks fat start before before start 0
-walks-begun fat start before a t = record {
+pub walks_begun : (fat : List ℕ) (start : ℕ) (before : List ℕ) → Walkable fat before → leads (length fat) start ≡ true → Walks fat start before before start 0
+walks_begun fat start before a t = record {
   asks = a;
-  here = sym (stepped-none fat start);
-  going = going-none;
+  here = sym (stepped_none fat start);
+  going = going_none;
   onward = t;
   fresh = λ pos. absurd (omega arith);
   list = filled_none (stepped fat start) before;
 }
 
 -- the start is neither END nor a sector
-pub walks-past : (fat : List ℕ) (start : ℕ) (before : List ℕ) → length fat ≤ maxRegular → leads (length fat) start ≡ false
+pub walks_past : (fat : List ℕ) (start : ℕ) (before : List ℕ) → length fat ≤ max_regular → leads (length fat) start ≡ false
     → WalkLeft fat start before (Refused 20) before
-walks-past fat start before few f =
-    let c = leads-false (length fat) start few f in left-refuses fat start before before 20 (walk-past fat start c.0 c.1)
+walks_past fat start before few f =
+    let c = leads_false (length fat) start few f in left_refuses fat start before before 20 (walk_past fat start c.0 c.1)
 
 module _ {fat : List ℕ} {start : ℕ} {before ids : List ℕ} {id count : ℕ} (g : Walks fat start before ids id count) where
   -- the steps so far met different sectors, so the list has room for their ids
-  walks-most : count ≤ length before
-  walks-most = omega (arith, going-most g.asks.few g.asks.once g.going, g.asks.room)
+  walks_most : count ≤ length before
+  walks_most = omega (arith, going_most g.asks.few g.asks.once g.going, g.asks.room)
 
-  pub walks-length : length ids ≡ length before
-  walks-length = ap length g.list ∙ length-filled (stepped fat start) before count walks-most
+  pub walks_length : length ids ≡ length before
+  walks_length = ap length g.list ∙ length_filled (stepped fat start) before count walks_most
 
   -- the loop is over: END is met
-  pub walks-over : id ≡ endOfChain → WalkLeft fat start before (Listed count) ids
-  walks-over e =
-      left-lists fat start before ids (tab (stepped fat start) count) count (walk_ends g.asks.few count g.going.path (sym g.here ∙ e))
-      (length-tab (stepped fat start) count) g.list
+  pub walks_over : id ≡ end_of_chain → WalkLeft fat start before (Listed count) ids
+  walks_over e =
+      left_lists fat start before ids (tab (stepped fat start) count) count (walk_ends g.asks.few count g.going.path (sym g.here ∙ e))
+      (length_tab (stepped fat start) count) g.list
 
   -- a turn of the loop, at an id that is not END
-  module _ (more : id ≢ endOfChain) where
-    pub turn-sector : id < length fat
-    turn-sector = leads-true (length fat) id g.onward more
+  module _ (more : id ≢ end_of_chain) where
+    pub turn_sector : id < length fat
+    turn_sector = leads_true (length fat) id g.onward more
 
-    turn-going : Going fat start (suc count)
-    turn-going = going_more g.going (rw (← g.here) turn-sector) (λ pos. rw (← g.here) (g.fresh pos))
+    turn_going : Going fat start (suc count)
+    turn_going = going_more g.going (rw (← g.here) turn_sector) (λ pos. rw (← g.here) (g.fresh pos))
 
     -- one sector more, different from those before
-    pub turn-most : count < length fat
-    turn-most = going-most g.asks.few g.asks.once turn-going
+    pub turn_most : count < length fat
+    turn_most = going_most g.asks.few g.asks.once turn_going
 
-    pub turn-room : count < length ids
-    turn-room = omega (arith, turn-most, g.asks.room, walks-length)
+    pub turn_room : count < length ids
+    turn_room = omega (arith, turn_most, g.asks.room, walks_length)
 
-    turn-next : stepped fat start (suc count) ≡ get_or fat id 0
-    turn-next = stepped-next fat start count ∙ ap (λ (x : ℕ). get_or fat x 0) (sym g.here)
+    turn_next : stepped fat start (suc count) ≡ get_or fat id 0
+    turn_next = stepped_next fat start count ∙ ap (λ (x : ℕ). get_or fat x 0) (sym g.here)
 
     pub turn_on : leads (length fat) (get_or fat id 0) ≡ true → get_or fat id 0 ≢ start → Walks fat start before (set ids count id) (get_or fat id 0) (count + 1)
     turn_on t d = record {
       asks = g.asks;
-      here = rw add-one (sym turn-next);
-      going = rw add-one turn-going;
+      here = rw add-one (sym turn_next);
+      going = rw add-one turn_going;
       onward = t;
       fresh = λ pos. d;
       list =
           ap (λ (l : List ℕ). set l count id) g.list
-          ∙ filled_more (stepped fat start) before count id (omega (arith, turn-most, g.asks.room)) g.here;
+          ∙ filled_more (stepped fat start) before count id (omega (arith, turn_most, g.asks.room)) g.here;
     }
 
-    pub turn-bad : (after : List ℕ) → leads (length fat) (get_or fat id 0) ≡ false → WalkLeft fat start before (Refused 21) after
-    turn-bad after f =
-        let c = leads-false (length fat) (get_or fat id 0) g.asks.few f in
-        left-refuses fat start before after 21 (walk-bad g.asks.few turn-going turn-most (rw turn-next c.1) (rw turn-next c.0))
+    pub turn_bad : (after : List ℕ) → leads (length fat) (get_or fat id 0) ≡ false → WalkLeft fat start before (Refused 21) after
+    turn_bad after f =
+        let c = leads_false (length fat) (get_or fat id 0) g.asks.few f in
+        left_refuses fat start before after 21 (walk_bad g.asks.few turn_going turn_most (rw turn_next c.1) (rw turn_next c.0))
 
-    pub turn-back : (after : List ℕ) → get_or fat id 0 ≡ start → WalkLeft fat start before (Refused 22) after
-    turn-back after e = left-refuses fat start before after 22 (walk-back g.asks.few turn-going turn-most (turn-next ∙ e))
+    pub turn_back : (after : List ℕ) → get_or fat id 0 ≡ start → WalkLeft fat start before (Refused 22) after
+    turn_back after e = left_refuses fat start before after 22 (walk_back g.asks.few turn_going turn_most (turn_next ∙ e))
 
 -- for callers: the outcome that an answer stands for, and the lent list
-answer-lists : (w : Outcome) (k : ℕ) → Listed k ≡ answer_of w → (ids : List ℕ) × (w ≡ lists ids) × (length ids ≡ k)
+answer_lists : (w : Outcome) (k : ℕ) → Listed k ≡ answer_of w → (ids : List ℕ) × (w ≡ lists ids) × (length ids ≡ k)
 unfolding answer_of
-answer-lists (lists ids) k e = (ids, refl, cc)
-answer-lists (refuses r) k e = let z : ◌≡◌ {A = ℕ} 0 1 = cc in absurd (omega arith)
+answer_lists (lists ids) k e = (ids, refl, cc)
+answer_lists (refuses r) k e = let z : ◌≡◌ {A = ℕ} 0 1 = cc in absurd (omega arith)
 
-answer-refuses : (w : Outcome) (x : ℕ) → Refused x ≡ answer_of w → w ≡ refuses x
+answer_refuses : (w : Outcome) (x : ℕ) → Refused x ≡ answer_of w → w ≡ refuses x
 unfolding answer_of
-answer-refuses (lists ids) x e = let z : ◌≡◌ {A = ℕ} 0 1 = cc in absurd (omega arith)
-answer-refuses (refuses r) x e = let same : r ≡ x = cc in ap refuses same
+answer_refuses (lists ids) x e = let z : ◌≡◌ {A = ℕ} 0 1 = cc in absurd (omega arith)
+answer_refuses (refuses r) x e = let same : r ≡ x = cc in ap refuses same
 
 module _ {fat : List ℕ} {start : ℕ} {before after : List ℕ} {r : Walked} (w : WalkLeft fat start before r after) where
-  pub left-refused : (x : ℕ) → r ≡ Refused x → walk_of fat start ≡ refuses x
-  left-refused x e = answer-refuses (walk_of fat start) x (sym e ∙ w.answer)
+  pub left_refused : (x : ℕ) → r ≡ Refused x → walk_of fat start ≡ refuses x
+  left_refused x e = answer_refuses (walk_of fat start) x (sym e ∙ w.answer)
 
-  pub left-listed : (k : ℕ) → r ≡ Listed k → (walk_of fat start ≡ lists (take k after)) × (drop k after ≡ drop k before)
-  left-listed k e = of (answer-lists (walk_of fat start) k (sym e ∙ w.answer))
+  pub left_listed : (k : ℕ) → r ≡ Listed k → (walk_of fat start ≡ lists (take k after)) × (drop k after ≡ drop k before)
+  left_listed k e = of (answer_lists (walk_of fat start) k (sym e ∙ w.answer))
     where
       of : (ids : List ℕ) × (walk_of fat start ≡ lists ids) × (length ids ≡ k) → (walk_of fat start ≡ lists (take k after)) × (drop k after ≡ drop k before)
       of (ids, o, l) =

@@ -1,6 +1,6 @@
 -- What the code of a walk asks for and leaves (document 01, Calls on a chain). Assumes nothing.
 use Rattle.std.specs.Prelude.{ℕ, ◌≤◌, ◌≡◌, List, ◌++◌, length, drop}
-use Rattle.consts.specs.Consts.{maxRegular}
+use Rattle.consts.specs.Consts.{max_regular}
 use Rattle.walk.specs.Steps.{Once}
 use Rattle.walk.specs.Walk.{Outcome, lists, refuses, walk_of}
 use Rattle.walk.specs.declared.Walked.{Walked}
@@ -13,7 +13,7 @@ answer_of (refuses r) = Refused r
 
 -- a table of no more sectors than there are regular numbers (MS-CFB 2.1), none pointed to twice, and a list with room for all
 pub record Walkable (fat ids : List ℕ) : Type 0 where
-  pub few : length fat ≤ maxRegular
+  pub few : length fat ≤ max_regular
   pub once : Once fat
   pub room : length fat ≤ length ids
 

@@ -1,6 +1,6 @@
 // The walk of a chain over a table of numbers (document 01, Calls on a chain): the ids that it lists.
 ghost use Rattle.std.specs.Prelude.{◌≡◌, ◌≤◌};
-ghost use Rattle.consts.specs.Consts.{maxRegular};
+ghost use Rattle.consts.specs.Consts.{max_regular};
 ghost use Rattle.walk.specs.Walk.{leads as leadsOn};
 ghost use Rattle.walk.specs.Walked.{Walkable, WalkLeft};
 
@@ -13,7 +13,7 @@ pub enum Walked {
 
 // Whether a number is END or one of n sectors.
 fn leads(n: usize, e: u32) -> bool
-    requires { n ≤ maxRegular }
+    requires { n ≤ max_regular }
     ensures { result ≡ leadsOn n e }
 {
     if e == consts::END_OF_CHAIN {

@@ -1,8 +1,8 @@
 -- `line_at` meets its contract: the text was compared where it is to stand, and a line feed after it. Assumes nothing.
 use Rattle.records.proofs.Held.{not-false}
-use Rattle.answers.proofs.Agreed.{part-between}
+use Rattle.answers.proofs.Agreed.{part_between}
 use Rattle.std.proofs.Common.{sym, ◌∙◌, length-take-le, rules}
-use Rattle.answers.proofs.Lined.{no_line, line-stands}
+use Rattle.answers.proofs.Lined.{no_line, line_stands}
 use Rattle.answers.proofs.line_at.Statement.{statement}
 use Rattle.answers.proofs.line_at.Tie as tie
 
@@ -61,7 +61,7 @@ add-t9 c = search rules
 returns-6 : tie.Need-returns-6
 returns-6 c =
     let given = (at-start c).args in
-    line-stands given.held.now given.t3 given.at given.len (search rules) (part-between given.held.now given.at given.len)
+    line_stands given.held.now given.t3 given.at given.len (search rules) (part_between given.held.now given.at given.len)
     (sym (at_same c).same.ensures ∙ not-false _ c.before.before.if4.false) c.if5.false
 
 pub line-at-spec : {M : Type 1} → statement M

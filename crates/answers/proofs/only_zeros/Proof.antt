@@ -1,7 +1,7 @@
 -- `only_zeros` meets its contract: so far every byte from `at` on is zero. Assumes nothing.
 use Rattle.std.proofs.Common.{◌≡◌, ℕ, ◌-◌, ◌<◌, ◌≤◌, length, get_or, arith}
 use Rattle.records.proofs.Held.{never}
-use Rattle.answers.proofs.Lined.{zeros-more, zeros-all}
+use Rattle.answers.proofs.Lined.{zeros_more, zeros_all}
 use Rattle.answers.proofs.only_zeros.Statement.{statement}
 use Rattle.answers.proofs.only_zeros.Tie as tie
 
@@ -30,12 +30,12 @@ loop-again : tie.Need-loop-preserved invariant-loop decreases-loop
 loop-again c =
     let given = c.before.before.before.before.args in
     let turn = c.before.before.before.loop in
-    (omega arith, zeros-more given.held.now given.at turn.i turn.invariant.1 c.if1.false)
+    (omega arith, zeros_more given.held.now given.at turn.i turn.invariant.1 c.if1.false)
 
 returns-2 : tie.Need-returns-2 invariant-loop decreases-loop
 returns-2 c =
     let given = c.before.before.args in
-    λ e. zeros-all given.held.now given.at c.before.loop.i c.before.loop.invariant.1 (omega arith)
+    λ e. zeros_all given.held.now given.at c.before.loop.i c.before.loop.invariant.1 (omega arith)
 
 pub only-zeros-spec : {M : Type 1} → statement M
 only-zeros-spec =

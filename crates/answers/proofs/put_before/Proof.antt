@@ -2,8 +2,8 @@
 use Rattle.std.proofs.Common.{◌≡◌, ℕ, ◌+◌, ◌-◌, ◌*◌, ◌%◌, ◌≤◌, List, ◌++◌, length, drop, set, refl, ap, ◌∙◌, arith, length-set, rules}
 use Rattle.lists.specs.Lists.{tab}
 use Rattle.lists.proofs.Tab.{filled_none, filled_more}
-use Rattle.answers.specs.Answers.{before as bytesBefore}
-use Rattle.records.proofs.Held.{filled-all}
+use Rattle.answers.specs.Answers.{before as bytes_before}
+use Rattle.records.proofs.Held.{filled_all}
 use Rattle.answers.proofs.Agreed.{byte_next}
 use Rattle.answers.proofs.put_before.Statement.{statement}
 use Rattle.answers.proofs.put_before.Tie as tie
@@ -43,8 +43,8 @@ same_length : tie.Need-same-length invariant-loop decreases-loop
 same_length c = omega arith
 
 returns : tie.Need-returns invariant-loop decreases-loop
-unfolding bytesBefore
-returns c = filled-all _ _ c.before.loop.i c.before.loop.invariant.1 (omega arith) (omega arith)
+unfolding bytes_before
+returns c = filled_all _ _ c.before.loop.i c.before.loop.invariant.1 (omega arith) (omega arith)
 
 pub put-before-spec : {M : Type 1} → statement M
 put-before-spec =

@@ -1,7 +1,7 @@
 -- `same_items` meets its contract: what is left to agree from here is the whole. Assumes nothing.
 use Rattle.std.proofs.Common.{◌-◌, ◌≤◌, arith, rules}
 use Rattle.records.proofs.Held.{never}
-use Rattle.answers.proofs.Lined.{Rest, text-taken, rest_more, rest-none, rest-whole}
+use Rattle.answers.proofs.Lined.{Rest, text_taken, rest_more, rest_none, rest_whole}
 use Rattle.answers.proofs.same_items.Statement.{statement}
 use Rattle.answers.proofs.same_items.Tie as tie
 
@@ -62,7 +62,7 @@ loop-again c =
       λ rest.
           turn.inv.1
           (rest_more _ _ _ turn.at turn.past turn.items found.before.before.prettify.ensures found.item.given.1
-          (text-taken _ (at-text c).text_of.ensures) (c.before.before.before.line_at_lem.ensures _ c.before.line.given.1) rest),
+          (text_taken _ (at-text c).text_of.ensures) (c.before.before.before.line_at_lem.ensures _ c.before.line.given.1) rest),
     )
 
 returns-3 : tie.Need-returns-3 invariant-loop decreases-loop
@@ -75,7 +75,7 @@ returns-4 : tie.Need-returns-4 invariant-loop decreases-loop
 returns-4 c =
     let turn = c.before.before.before.loop in
     λ e.
-    rest-whole _ _ _ (turn.invariant.1 (rest-none _ _ _ turn.at turn.past turn.items c.before.if1.false (omega arith) (c.only-zeros.ensures e)))
+    rest_whole _ _ _ (turn.invariant.1 (rest_none _ _ _ turn.at turn.past turn.items c.before.if1.false (omega arith) (c.only-zeros.ensures e)))
 
 pub same-items-spec : {M : Type 1} → statement M
 same-items-spec =

@@ -2,7 +2,7 @@
 use Rattle.std.proofs.Common.{sym, length-take-le, rules}
 use Rattle.lists.specs.Lists.{part}
 use Rattle.records.proofs.Held.{never}
-use Rattle.answers.proofs.Agreed.{list-agrees}
+use Rattle.answers.proofs.Agreed.{list_agrees}
 use Rattle.answers.proofs.same_list.Statement.{statement}
 use Rattle.answers.proofs.same_list.Tie as tie
 
@@ -53,7 +53,7 @@ unfolding part
 returns-2 c =
     let given = c.before.before.before.before.before in
     let length = given.before.before.before.before in
-    λ e. list-agrees length.before.before.args.case.now length.length-in.ensures given.take-numbers.ensures c.before.number_in.ensures (c.same-items.ensures e)
+    λ e. list_agrees length.before.before.args.case.now length.length-in.ensures given.take-numbers.ensures c.before.number_in.ensures (c.same-items.ensures e)
 
 pub same-list-spec : {M : Type 1} → statement M
 same-list-spec =

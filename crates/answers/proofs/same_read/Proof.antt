@@ -2,7 +2,7 @@
 use Rattle.std.proofs.Common.{sym, ◌∙◌, rules}
 use Rattle.lists.specs.Lists.{part}
 use Rattle.records.proofs.Held.{never}
-use Rattle.answers.proofs.Agreed.{part-between, version-at, read-agrees}
+use Rattle.answers.proofs.Agreed.{part_between, version_at, read_agrees}
 use Rattle.answers.proofs.same_read.Statement.{statement}
 use Rattle.answers.proofs.same_read.Tie as tie
 
@@ -86,13 +86,13 @@ returns-4 : tie.Need-returns-4
 unfolding part
 returns-4 c =
     let case = (at-start c).args.case.now in
-    let version = version-at _ (at-number c).before.read32.ensures (at-number c).from-number.ensures (at-version c).numbered.given.1 in
+    let version = version_at _ (at-number c).before.read32.ensures (at-number c).from-number.ensures (at-version c).numbered.given.1 in
     let asked = at_read c in
     let length = asked.before.before.before.before in
     let tested = (at-number c).before.before in
     λ e.
-    read-agrees case version length.length-in.ensures asked.before.mode-in.ensures (part-between case 8 length.length-in.result) asked.read-from.ensures
-    (sym tested.before.before.number.ensures ∙ tested.if2.left) tested.before.number_in.ensures (c.same-header.ensures e ∙ c.before.header-in.ensures)
+    read_agrees case version length.length-in.ensures asked.before.mode-in.ensures (part_between case 8 length.length-in.result) asked.read-from.ensures
+    (sym tested.before.before.number.ensures ∙ tested.if2.left) tested.before.number_in.ensures (c.same_header_lem.ensures e ∙ c.before.header-in.ensures)
 
 pub same-read-spec : {M : Type 1} → statement M
 same-read-spec =

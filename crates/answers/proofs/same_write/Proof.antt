@@ -2,7 +2,7 @@
 use Rattle.std.proofs.Common.{sym, length-take-le, rules}
 use Rattle.lists.specs.Lists.{part}
 use Rattle.records.proofs.Held.{never}
-use Rattle.answers.proofs.Agreed.{part-between, version-at, write-agrees}
+use Rattle.answers.proofs.Agreed.{part_between, version_at, write_agrees}
 use Rattle.answers.proofs.same_write.Statement.{statement}
 use Rattle.answers.proofs.same_write.Tie as tie
 
@@ -83,11 +83,11 @@ returns-3 : tie.Need-returns-3
 unfolding part
 returns-3 c =
     let case = (at-start c).args.case.now in
-    let version = version-at _ (at-number c).before.read32.ensures (at-number c).from-number.ensures (at-version c).numbered.given.1 in
+    let version = version_at _ (at-number c).before.read32.ensures (at-number c).from-number.ensures (at-version c).numbered.given.1 in
     let length = at-start-length c in
     λ e.
-    write-agrees case version length.length-in.ensures (at-header c).header-in.ensures c.before.before.before.number_in.ensures
-    (length-take-le _ _ (search rules)) (part-between case 476 length.length-in.result) (c.before.written_as.ensures e)
+    write_agrees case version length.length-in.ensures (at-header c).header-in.ensures c.before.before.before.number_in.ensures
+    (length-take-le _ _ (search rules)) (part_between case 476 length.length-in.result) (c.before.written_as.ensures e)
 
 pub same-write-spec : {M : Type 1} → statement M
 same-write-spec =

@@ -1,7 +1,7 @@
 -- `written_as` meets its contract: the writer's own, over the bytes that `put_before` puts. Assumes nothing.
 use Rattle.std.proofs.Common.{sym, ◌∙◌, rules}
 use Rattle.records.proofs.Held.{never}
-use Rattle.answers.proofs.Agreed.{written-agrees}
+use Rattle.answers.proofs.Agreed.{written_agrees}
 use Rattle.answers.proofs.written_as.Statement.{statement}
 use Rattle.answers.proofs.written_as.Tie as tie
 
@@ -38,7 +38,7 @@ returns-2 c =
     let put = (at-put c).put-before in
     let wrote = at-write c in
     λ e.
-    written-agrees _ _ put.ensures put.kept.0 wrote.write-to.ensures (sym c.before.before.before.number.ensures ∙ c.before.before.if1.false) (sym c.same.ensures ∙ e)
+    written_agrees _ _ put.ensures put.kept.0 wrote.write-to.ensures (sym c.before.before.before.number.ensures ∙ c.before.before.if1.false) (sym c.same.ensures ∙ e)
 
 pub written-as-spec : {M : Type 1} → statement M
 written-as-spec =

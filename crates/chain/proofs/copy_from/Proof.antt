@@ -1,6 +1,6 @@
 -- The part that is lent is as long as out, so the copy is that part.
 use mathlib.Core.Path.{◌∙◌}
-use Rattle.chain.proofs.Reading.{copied-part}
+use Rattle.chain.proofs.Reading.{copied_part}
 use borrow.Author.Rules.{rules}
 use Rattle.chain.proofs.copy_from.Statement.{statement}
 use Rattle.chain.proofs.copy_from.Tie as tie
@@ -25,7 +25,7 @@ same_length c = search rules
 
 returns : tie.Need-returns
 returns c = let g = c.before.before.before.before.before.before.before in
-    c.before.before.copy.ensures ∙ copied-part _ _ g.args.x g.requires
+    c.before.before.copy.ensures ∙ copied_part _ _ g.args.x g.requires
 
 pub copy-from-spec : {M : Type 1} → statement M
 copy-from-spec =

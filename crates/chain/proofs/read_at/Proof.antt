@@ -5,7 +5,7 @@ use mathlib.Core.List.{List}
 use native.Mathlib.Omega.{arith}
 use lib.ListN.{length}
 use Rattle.lists.specs.Lists.{part}
-use Rattle.sectors.proofs.Laws.{scaled, lent-sector}
+use Rattle.sectors.proofs.Laws.{scaled, lent_sector}
 use borrow.Author.Rules.{rules}
 use Rattle.chain.proofs.read_at.Statement.{statement}
 use Rattle.chain.proofs.read_at.Tie as tie
@@ -37,7 +37,7 @@ same_length c = search rules
 returns : tie.Need-returns
 returns c = let g = c.before.before.before.before.before.before.before in
     c.before.before.copy-from.ensures
-    ∙ ap (λ (l : List ℕ). part l g.args.x (length g.args.out.now)) (lent-sector g.args.s g.args.id g.args.image.now)
+    ∙ ap (λ (l : List ℕ). part l g.args.x (length g.args.out.now)) (lent_sector g.args.s g.args.id g.args.image.now)
 
 pub read-at-spec : {M : Type 1} → statement M
 read-at-spec =

@@ -2,7 +2,7 @@
 use Prim.Native.Nat.{◌-◌}
 use native.Mathlib.Omega.{arith}
 use lib.ListN.{length}
-use Rattle.consts.proofs.Runs.{Counting, counting-begun, counting-on, counting-stopped, counting-over}
+use Rattle.consts.proofs.Runs.{Counting, counting_begun, counting_on, counting_stopped, counting_over}
 use Rattle.consts.proofs.run_of.Statement.{statement}
 use Rattle.consts.proofs.run_of.Tie as tie
 
@@ -13,7 +13,7 @@ abbrev decreases-loop : tie.decreases-loop
 decreases-loop sectors at value past₀ past = length sectors - past
 
 loop-holds : tie.Need-loop-init invariant-loop decreases-loop
-loop-holds c = counting-begun _ _ _
+loop-holds c = counting_begun _ _ _
 
 mul-if1 : tie.Need-overflow-mul-if1 invariant-loop decreases-loop
 mul-if1 c = omega arith
@@ -25,7 +25,7 @@ sub-result : tie.Need-overflow-sub-result invariant-loop decreases-loop
 sub-result c = omega arith
 
 returns : tie.Need-returns invariant-loop decreases-loop
-returns c = counting-stopped c.before.before.before.loop.invariant c.before.before.loop-test.true c.if1.true
+returns c = counting_stopped c.before.before.before.loop.invariant c.before.before.loop-test.true c.if1.true
 
 add-past : tie.Need-overflow-add-past invariant-loop decreases-loop
 add-past c = omega arith
@@ -34,13 +34,13 @@ loop-less : tie.Need-loop-smaller invariant-loop decreases-loop
 loop-less c = omega arith
 
 loop-again : tie.Need-loop-preserved invariant-loop decreases-loop
-loop-again c = counting-on c.before.before.before.loop.invariant c.before.before.loop-test.true c.if1.false
+loop-again c = counting_on c.before.before.before.loop.invariant c.before.before.loop-test.true c.if1.false
 
 sub-result-2 : tie.Need-overflow-sub-result-2 invariant-loop decreases-loop
 sub-result-2 c = omega arith
 
 returns-2 : tie.Need-returns-2 invariant-loop decreases-loop
-returns-2 c = counting-over c.before.loop.invariant c.loop-test.false
+returns-2 c = counting_over c.before.loop.invariant c.loop-test.false
 
 pub run-of-spec : {M : Type 1} → statement M
 run-of-spec =

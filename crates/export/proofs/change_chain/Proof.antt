@@ -1,7 +1,7 @@
 -- Words that hold no state are refused by 19; else the call on the state that they hold decides, and its answer and state are given as words.
 use mathlib.Core.Path.{sym, ◌∙◌}
 use borrow.Author.Tests.{not-true, not-false}
-use Rattle.export.proofs.Changing.{change-refused, edit-given}
+use Rattle.export.proofs.Changing.{change_refused, edit_given}
 use borrow.Author.Rules.{rules}
 use Rattle.export.proofs.change_chain.Statement.{statement}
 use Rattle.export.proofs.change_chain.Tie as tie
@@ -30,7 +30,7 @@ returns : tie.Need-returns
 returns c =
     let filled = c.before.before.before in
     let judged = filled.before.before in
-    change-refused _ _ _ _ _ _ _ _ _ judged.before.holds-state.ensures (not-true _ judged.if1.true) filled.fill32.ensures
+    change_refused _ _ _ _ _ _ _ _ _ judged.before.holds-state.ensures (not-true _ judged.if1.true) filled.fill32.ensures
 
 state-in-requires : tie.Need-state-in-requires
 state-in-requires c κs = sym c.before.holds-state.ensures ∙ not-false _ c.if1.false
@@ -67,7 +67,7 @@ returns-2 c =
     let judged = (taken c).before in
     let held = (taken c).state-in.ensures in
     let told = c.give.ensures in
-    edit-given _ _ _ _ _ _ _ _ _ _ judged.before.holds-state.ensures (not-false _ judged.if1.left) held.0 held.1 _ _ _ told.0 told.1.0 told.1.1 _ (lent c).args.edit (lent c).args.buf.now (called c).change.ensures
+    edit_given _ _ _ _ _ _ _ _ _ _ judged.before.holds-state.ensures (not-false _ judged.if1.left) held.0 held.1 _ _ _ told.0 told.1.0 told.1.1 _ (lent c).args.edit (lent c).args.buf.now (called c).change.ensures
 
 pub change-chain-spec : {M : Type 1} → statement M
 change-chain-spec =

@@ -1,6 +1,6 @@
 -- `rasuvelk_open` meets its contract: it gives the number, the words of the state and the tables that the opening leaves.
 use borrow.Author.Rules.{rules}
-use Rattle.export.proofs.Answers.{opening-gives}
+use Rattle.export.proofs.Answers.{opening_gives}
 use Rattle.export.proofs.rasuvelk_open.Statement.{statement}
 use Rattle.export.proofs.rasuvelk_open.Tie as tie
 
@@ -37,7 +37,7 @@ same-length-5 c = search rules
 
 returns : tie.Need-returns
 returns c =
-    opening-gives _ _ _ _ _ _ _ _ _ _ (opened c).before.before.before.before.before.before.Mode-of.ensures (opened c).«open».ensures c.number.ensures c.before.words-of-state.ensures
+    opening_gives _ _ _ _ _ _ _ _ _ _ (opened c).before.before.before.before.before.before.Mode-of.ensures (opened c).«open».ensures c.number.ensures c.before.words-of-state.ensures
 
 pub rasuvelk-open-spec : {M : Type 1} → statement M
 rasuvelk-open-spec =

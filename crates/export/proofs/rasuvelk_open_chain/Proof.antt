@@ -1,7 +1,7 @@
 -- Words that hold no state are refused by 19; else the call on the state that they hold decides.
 use mathlib.Core.Path.{sym, ◌∙◌}
 use borrow.Author.Tests.{not-true, not-false}
-use Rattle.export.proofs.Giving.{open-refused, open-given}
+use Rattle.export.proofs.Giving.{open_refused, open_given}
 use borrow.Author.Rules.{rules}
 use Rattle.export.proofs.rasuvelk_open_chain.Statement.{statement}
 use Rattle.export.proofs.rasuvelk_open_chain.Tie as tie
@@ -26,7 +26,7 @@ returns : tie.Need-returns
 returns c =
     let filled = c.before.before.before in
     let judged = filled.before.before in
-    open-refused _ _ _ _ _ _ _ judged.before.holds-state.ensures (not-true _ judged.if1.true) filled.fill32.ensures
+    open_refused _ _ _ _ _ _ _ judged.before.holds-state.ensures (not-true _ judged.if1.true) filled.fill32.ensures
 
 state-in-requires : tie.Need-state-in-requires
 state-in-requires c κs = sym c.before.holds-state.ensures ∙ not-false _ c.if1.false
@@ -46,7 +46,7 @@ same-length-2 c = search rules
 returns-2 : tie.Need-returns-2
 returns-2 c =
     let judged = (taken c).before in
-    open-given _ _ _ _ _ _ _ _ _ _ _ judged.before.holds-state.ensures (not-false _ judged.if1.left) (taken c).state-in.ensures.0 _ _ c.number.ensures c.before.words-of-answer.ensures (called c).open-chain.ensures
+    open_given _ _ _ _ _ _ _ _ _ _ _ judged.before.holds-state.ensures (not-false _ judged.if1.left) (taken c).state-in.ensures.0 _ _ c.number.ensures c.before.words-of-answer.ensures (called c).open-chain.ensures
 
 pub rasuvelk-open-chain-spec : {M : Type 1} → statement M
 rasuvelk-open-chain-spec =

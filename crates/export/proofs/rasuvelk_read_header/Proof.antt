@@ -1,7 +1,7 @@
 -- `rasuvelk_read_header` meets its contract: it gives the number and the words of what the reader says. Assumes nothing.
 use mathlib.Core.Path.{◌∙◌, ap}
 use Rattle.layout.specs.Layout.{words_of}
-use Rattle.export.proofs.Answers.{reading-number, reading-header}
+use Rattle.export.proofs.Answers.{reading_number, reading_header}
 use borrow.Author.Rules.{rules}
 use Rattle.export.proofs.rasuvelk_read_header.Statement.{statement}
 use Rattle.export.proofs.rasuvelk_read_header.Tie as tie
@@ -22,7 +22,7 @@ returns : tie.Need-returns
 returns c =
     let says = c.before.before.before.read-from.ensures in
     let mode = c.before.before.before.before.Mode-of.ensures in
-    (c.number.ensures ∙ reading-number says mode, c.before.words-of.ensures ∙ ap words_of (reading-header says mode))
+    (c.number.ensures ∙ reading_number says mode, c.before.words_of_lem.ensures ∙ ap words_of (reading_header says mode))
 
 pub rasuvelk-read-header-spec : {M : Type 1} → statement M
 rasuvelk-read-header-spec =

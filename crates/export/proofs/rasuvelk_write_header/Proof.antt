@@ -1,6 +1,6 @@
 -- `rasuvelk_write_header` meets its contract: a first word that names no version is refused, and else the writer decides. Assumes nothing.
 use mathlib.Core.Path.{◌∙◌}
-use Rattle.export.proofs.Answers.{unwritten-number, unwritten-bytes, written-number, written-bytes}
+use Rattle.export.proofs.Answers.{unwritten_number, unwritten_bytes, written_number, written_bytes}
 use borrow.Author.Rules.{rules}
 use Rattle.export.proofs.rasuvelk_write_header.Statement.{statement}
 use Rattle.export.proofs.rasuvelk_write_header.Tie as tie
@@ -35,7 +35,7 @@ returns c =
     let words = c.before.before.before.before.before.args.words.now in
     let numbered = c.before.before.from-number.ensures in
     let none = c.enum_told.given.1 in
-    (unwritten-number words _ numbered none, unwritten-bytes words _ numbered none)
+    (unwritten_number words _ numbered none, unwritten_bytes words _ numbered none)
 
 header-with-requires : tie.Need-header-with-requires
 header-with-requires c κs = search rules
@@ -56,7 +56,7 @@ returns-2 c =
     let version = (at-version c).numbered.given.1 in
     let header = (at-header c).header-with.ensures in
     let says = (at-write c).write-to.ensures in
-    (c.number.ensures ∙ written-number words numbered version header says, written-bytes words numbered version header says)
+    (c.number.ensures ∙ written_number words numbered version header says, written_bytes words numbered version header says)
 
 pub rasuvelk-write-header-spec : {M : Type 1} → statement M
 rasuvelk-write-header-spec =

@@ -2,12 +2,12 @@
 use mathlib.Core.Path.{◌∙◌, sym, ap}
 use native.Mathlib.Omega.{arith}
 use Rattle.words.specs.Words.{le}
-use Rattle.fields.proofs.Table.{number-below, number_fits, number-wide, number_is}
+use Rattle.fields.proofs.Table.{number_below, number_fits, number_wide, number_is}
 use Rattle.fields.proofs.number_at.Statement.{statement}
 use Rattle.fields.proofs.number_at.Tie as tie
 
 row-requires : tie.Need-row-requires
-row-requires c κs = number-below c.before.args.place c.before.requires.1
+row-requires c κs = number_below c.before.args.place c.before.requires.1
 
 read16-requires : tie.Need-read16-requires
 read16-requires c κs =
@@ -19,7 +19,7 @@ read32-requires : tie.Need-read32-requires
 read32-requires c κs =
     let s = c.before.before.before in
     let r = c.before.row.ensures in
-    omega (arith, r.0, number_fits s.args.place _ 4 s.requires.1 s.requires.0 (number-wide s.args.place s.requires.1 (λ e. c.if1.false (r.1 ∙ e))))
+    omega (arith, r.0, number_fits s.args.place _ 4 s.requires.1 s.requires.0 (number_wide s.args.place s.requires.1 (λ e. c.if1.false (r.1 ∙ e))))
 
 returns : tie.Need-returns
 returns c =
@@ -30,7 +30,7 @@ returns-2 : tie.Need-returns-2
 returns-2 c =
     let s = c.before.before.before.before in
     let r = c.before.before.row.ensures in
-    c.read32.ensures ∙ ap (le 4 _) r.0 ∙ number_is _ _ 4 (number-wide s.args.place s.requires.1 (λ e. c.before.if1.false (r.1 ∙ e)))
+    c.read32.ensures ∙ ap (le 4 _) r.0 ∙ number_is _ _ 4 (number_wide s.args.place s.requires.1 (λ e. c.before.if1.false (r.1 ∙ e)))
 
 pub number-at-spec : {M : Type 1} → statement M
 number-at-spec =

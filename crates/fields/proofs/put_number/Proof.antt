@@ -5,12 +5,12 @@ use native.Mathlib.Omega.{arith}
 use borrow.Author.Rules.{rules}
 use Rattle.lists.specs.Lists.{splice}
 use Rattle.words.specs.Words.{digits}
-use Rattle.fields.proofs.Table.{number-below, number_fits, number-wide, stored_is}
+use Rattle.fields.proofs.Table.{number_below, number_fits, number_wide, stored_is}
 use Rattle.fields.proofs.put_number.Statement.{statement}
 use Rattle.fields.proofs.put_number.Tie as tie
 
 row-requires : tie.Need-row-requires
-row-requires c κs = number-below c.before.args.place c.before.requires.1
+row-requires c κs = number_below c.before.args.place c.before.requires.1
 
 put16-requires : tie.Need-put16-requires
 put16-requires c κs =
@@ -22,7 +22,7 @@ put32-requires : tie.Need-put32-requires
 put32-requires c κs =
     let s = c.before.before.before.before in
     let r = c.before.before.row.ensures in
-    omega (arith, r.0, number_fits s.args.place _ 4 s.requires.1 s.requires.0 (number-wide s.args.place s.requires.1 (λ e. c.before.if1.false (r.1 ∙ e))))
+    omega (arith, r.0, number_fits s.args.place _ 4 s.requires.1 s.requires.0 (number_wide s.args.place s.requires.1 (λ e. c.before.if1.false (r.1 ∙ e))))
 
 same_length : tie.Need-same-length
 same_length c = search rules
@@ -43,7 +43,7 @@ returns-2 c =
     let r = i.before.row.ensures in
     let g = i.before.before.before in
     c.before.before.put32.ensures ∙ ap (λ (o : ℕ). splice g.args.buf.now o (digits 4 g.args.v)) r.0
-    ∙ stored_is _ g.args.place 4 _ (number-wide g.args.place g.requires.1 (λ e. i.if1.false (r.1 ∙ e)))
+    ∙ stored_is _ g.args.place 4 _ (number_wide g.args.place g.requires.1 (λ e. i.if1.false (r.1 ∙ e)))
 
 pub put-number-spec : {M : Type 1} → statement M
 put-number-spec =

@@ -1,5 +1,5 @@
 -- The field's bytes are lent as a part of the buffer; the eight bytes copied over it are the signature.
-use Rattle.fields.proofs.Table.{signature-stored}
+use Rattle.fields.proofs.Table.{signature_stored}
 use borrow.Author.Rules.{rules}
 use Rattle.fields.proofs.put_signature.Statement.{statement}
 use Rattle.fields.proofs.put_signature.Tie as tie
@@ -36,7 +36,7 @@ returns : tie.Need-returns
 returns c =
     let r = (at_row c).row in
     let g = (at_row c).before.before in
-    signature-stored g.args.buf.now c.before.before.copy.new.1.0 r.result.at r.result.width g.pre r.ensures.0 r.ensures.1 c.before.before.copy.ensures
+    signature_stored g.args.buf.now c.before.before.copy.new.1.0 r.result.at r.result.width g.pre r.ensures.0 r.ensures.1 c.before.before.copy.ensures
 
 pub put-signature-spec : {M : Type 1} → statement M
 put-signature-spec =

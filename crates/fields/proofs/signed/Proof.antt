@@ -4,7 +4,7 @@ use mathlib.Core.List.{List}
 use Prim.Native.Nat.{ℕ}
 use Rattle.lists.specs.Lists.{same_list}
 use Rattle.consts.specs.Consts.{signature}
-use Rattle.fields.proofs.Table.{part-lent}
+use Rattle.fields.proofs.Table.{part_lent}
 use borrow.Author.Rules.{rules}
 use Rattle.fields.proofs.signed.Statement.{statement}
 use Rattle.fields.proofs.signed.Tie as tie
@@ -33,7 +33,7 @@ same-requires c κs = search rules
 returns : tie.Need-returns
 returns c =
     let r = c.before.before.before.before.row in
-    c.same.ensures ∙ ap (λ (l : List ℕ). same_list l signature) (part-lent _ r.result.at r.result.width 0 8 r.ensures.0 r.ensures.1)
+    c.same.ensures ∙ ap (λ (l : List ℕ). same_list l signature) (part_lent _ r.result.at r.result.width 0 8 r.ensures.0 r.ensures.1)
 
 pub signed-spec : {M : Type 1} → statement M
 signed-spec =

@@ -1,7 +1,7 @@
 -- A chain of none leaves everything; else the entry of its last sector is made to point at the new one.
 use mathlib.Core.Path.{sym}
 use native.Mathlib.Omega.{arith}
-use Rattle.hand.proofs.Linking.{linked-none, linked_of, last-inside}
+use Rattle.hand.proofs.Linking.{linked_none, linked_of, last_inside}
 use borrow.Author.Rules.{rules}
 use Rattle.hand.proofs.link_last.Statement.{statement}
 use Rattle.hand.proofs.link_last.Tie as tie
@@ -14,7 +14,7 @@ abbrev entry : tie.Else1 → tie.Start
 entry c = c.before.before.before.before.before.before
 
 returns : tie.Need-returns
-returns c = λ difats frees free. sym (linked-none _ _ _ _ _ c.if1.true)
+returns c = λ difats frees free. sym (linked_none _ _ _ _ _ c.if1.true)
 
 sub-last : tie.Need-overflow-sub-last
 sub-last c = search rules
@@ -26,10 +26,10 @@ shared-slice-read-last : tie.Need-shared-slice-read-last
 shared-slice-read-last c = search rules
 
 cast-last : tie.Need-overflow-cast-last
-cast-last c = let t = c.before in omega (arith, (last-inside _ _ _ _ _ _ _ _ (entry t).requires t.if1.false).1.0.0)
+cast-last c = let t = c.before in omega (arith, (last_inside _ _ _ _ _ _ _ _ (entry t).requires t.if1.false).1.0.0)
 
 point-requires : tie.Need-point-requires
-point-requires c κs = let t = some c in last-inside _ _ _ _ _ _ _ _ (entry t).pre t.if1.left
+point-requires c κs = let t = some c in last_inside _ _ _ _ _ _ _ _ (entry t).pre t.if1.left
 
 same_length : tie.Need-same-length
 same_length c = search rules

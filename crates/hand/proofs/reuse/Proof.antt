@@ -1,5 +1,5 @@
 -- The entry is set, then the bytes are made zero.
-use Rattle.hand.proofs.Taking.{reused-of}
+use Rattle.hand.proofs.Taking.{reused_of}
 use borrow.Author.Rules.{rules}
 use Rattle.hand.proofs.reuse.Statement.{statement}
 use Rattle.hand.proofs.reuse.Tie as tie
@@ -17,7 +17,7 @@ same-length-2 : tie.Need-same-length-2
 same-length-2 c = search rules
 
 returns : tie.Need-returns
-returns c = reused-of _ _ _ _ _ _ _ _ c.before.before.before.before.before.before.before.before.set-fat.ensures c.before.before.init-at.ensures
+returns c = reused_of _ _ _ _ _ _ _ _ c.before.before.before.before.before.before.before.before.set-fat.ensures c.before.before.init-at.ensures
 
 pub reuse-spec : {M : Type 1} → statement M
 reuse-spec =

@@ -1,6 +1,6 @@
 -- An empty list has a new sector made; else the last of it is zeroed in the list, marked END and made zero.
 use native.Mathlib.Omega.{arith}
-use Rattle.hand.proofs.Taking.{stock-new, new-small, last-below, reuse-inside, taken-new, taken_free}
+use Rattle.hand.proofs.Taking.{stock_new, new_small, last_below, reuse_inside, taken_new, taken_free}
 use borrow.Author.Rules.{rules}
 use Rattle.hand.proofs.take_sector_id.Statement.{statement}
 use Rattle.hand.proofs.take_sector_id.Tie as tie
@@ -23,15 +23,15 @@ abbrev entry-2 : tie.Else1 → tie.Start
 entry-2 c = c.before.before.before.before.before.before
 
 new-sector-requires : tie.Need-new-sector-requires
-new-sector-requires c κs = let t = none c in stock-new _ _ _ _ _ (entry t).pre t.if1.taken
+new-sector-requires c κs = let t = none c in stock_new _ _ _ _ _ (entry t).pre t.if1.taken
 
 cast-t21 : tie.Need-overflow-cast-t21
 cast-t21 c = let t = none (made c).before in
-    omega (arith, new-small _ _ _ _ (stock-new _ _ _ _ _ (entry t).pre t.if1.taken) (made c).new-sector.ensures.0)
+    omega (arith, new_small _ _ _ _ (stock_new _ _ _ _ _ (entry t).pre t.if1.taken) (made c).new-sector.ensures.0)
 
 add-t22 : tie.Need-overflow-add-t22
 add-t22 c = let t = none (made c).before in
-    omega (arith, new-small _ _ _ _ (stock-new _ _ _ _ _ (entry t).pre t.if1.taken) (made c).new-sector.ensures.0)
+    omega (arith, new_small _ _ _ _ (stock_new _ _ _ _ _ (entry t).pre t.if1.taken) (made c).new-sector.ensures.0)
 
 same_length : tie.Need-same-length
 same_length c = search rules
@@ -46,7 +46,7 @@ same-length-4 : tie.Need-same-length-4
 same-length-4 c = search rules
 
 returns : tie.Need-returns
-returns c = taken-new _ _ _ _ _ _ _ _ _ _ _ _ _ _ (none (made c).before).if1.true (made c).new-sector.ensures (omega arith)
+returns c = taken_new _ _ _ _ _ _ _ _ _ _ _ _ _ _ (none (made c).before).if1.true (made c).new-sector.ensures (omega arith)
 
 sub-left : tie.Need-overflow-sub-left
 sub-left c = search rules
@@ -64,7 +64,7 @@ slice-write-frees : tie.Need-slice-write-frees
 slice-write-frees c = search rules
 
 reuse-requires : tie.Need-reuse-requires
-reuse-requires c κs = let t = some c in reuse-inside _ _ _ _ (entry-2 t).pre.disk (last-below _ _ _ _ _ (entry-2 t).pre t.if1.left)
+reuse-requires c κs = let t = some c in reuse_inside _ _ _ _ (entry-2 t).pre.disk (last_below _ _ _ _ _ (entry-2 t).pre t.if1.left)
 
 same-length-5 : tie.Need-same-length-5
 same-length-5 c = search rules

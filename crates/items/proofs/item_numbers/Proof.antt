@@ -1,5 +1,5 @@
 -- `items::item_numbers` meets its contract: its callees give the two numbers of the item that was found. Assumes nothing.
-use Rattle.items.proofs.Naming.{numbers-of-next}
+use Rattle.items.proofs.Naming.{numbers_of_next}
 use borrow.Author.Rules.{rules}
 use Rattle.items.proofs.item_numbers.Statement.{statement}
 use Rattle.items.proofs.item_numbers.Tie as tie
@@ -17,7 +17,7 @@ enum_told : tie.Need-enum-told
 enum_told c = search rules
 
 returns : tie.Need-returns
-returns c = numbers-of-next c.before.before.before.found.given.1 c.before.first-of-sector.ensures c.last-of-sector.ensures
+returns c = numbers_of_next c.before.before.before.found.given.1 c.before.first-of-sector.ensures c.last-of-sector.ensures
 
 returns-2 : tie.Need-returns-2
 returns-2 c = search rules

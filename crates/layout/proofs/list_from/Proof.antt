@@ -4,8 +4,8 @@ use mathlib.Core.Path.{◌≡◌, sym}
 use native.Mathlib.Omega.{arith}
 use lib.ListN.{length, take, drop, replicate}
 use Rattle.lists.specs.Lists.{splice}
-use Rattle.lists.proofs.Splice.{splice-nil}
-use Rattle.layout.proofs.Placing.{taken_more, taken-list}
+use Rattle.lists.proofs.Splice.{splice_nil}
+use Rattle.layout.proofs.Placing.{taken_more, taken_list}
 use Rattle.layout.proofs.list_from.Statement.{statement}
 use Rattle.layout.proofs.list_from.Tie as tie
 
@@ -16,7 +16,7 @@ abbrev decreases-loop : tie.decreases-loop
 decreases-loop words list₀ i₀ list i = 109 - i
 
 loop-holds : tie.Need-loop-init invariant-loop decreases-loop
-loop-holds c = (omega arith, sym (splice-nil (replicate 109 0) 0))
+loop-holds c = (omega arith, sym (splice_nil (replicate 109 0) 0))
 
 add-list : tie.Need-overflow-add-list invariant-loop decreases-loop
 add-list c = omega arith
@@ -50,7 +50,7 @@ returns : tie.Need-returns invariant-loop decreases-loop
 returns c =
     let words = c.before.before.args.t1 in
     let whole : length words ≡ 117 = c.before.before.well-formed.0.1.0.1 in
-    taken-list 8 109 words c.before.loop.i c.before.loop.invariant.1 whole (omega arith)
+    taken_list 8 109 words c.before.loop.i c.before.loop.invariant.1 whole (omega arith)
 
 pub list-from-spec : {M : Type 1} → statement M
 list-from-spec =

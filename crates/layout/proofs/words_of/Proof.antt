@@ -1,5 +1,5 @@
 -- `layout::words_of` meets its contract: the eight numbers are stored over the zeros before the list. Assumes nothing.
-use Rattle.layout.proofs.Placing.{words-stored}
+use Rattle.layout.proofs.Placing.{words_stored}
 use borrow.Author.Rules.{rules}
 use Rattle.layout.proofs.words_of.Statement.{statement}
 use Rattle.layout.proofs.words_of.Tie as tie
@@ -35,7 +35,7 @@ array-write-words-8 : tie.Need-array-write-words-8
 array-write-words-8 c = search rules
 
 returns : tie.Need-returns
-returns c = words-stored c.before.before.before.args.h c.before.words-with.ensures c.number.ensures
+returns c = words_stored c.before.before.before.args.h c.before.words-with.ensures c.number.ensures
 
 pub words-of-spec : {M : Type 1} → statement M
 words-of-spec =

@@ -4,8 +4,8 @@ use mathlib.Core.Path.{◌≡◌, sym}
 use native.Mathlib.Omega.{arith}
 use lib.ListN.{length, take, replicate}
 use Rattle.lists.specs.Lists.{splice}
-use Rattle.lists.proofs.Splice.{splice-nil}
-use Rattle.layout.proofs.Placing.{placed-more, placed-all}
+use Rattle.lists.proofs.Splice.{splice_nil}
+use Rattle.layout.proofs.Placing.{placed_more, placed_all}
 use Rattle.layout.proofs.words_with.Statement.{statement}
 use Rattle.layout.proofs.words_with.Tie as tie
 
@@ -16,7 +16,7 @@ abbrev decreases-loop : tie.decreases-loop
 decreases-loop list words₀ i₀ words i = 109 - i
 
 loop-holds : tie.Need-loop-init invariant-loop decreases-loop
-loop-holds c = (omega arith, sym (splice-nil (replicate 117 0) 8))
+loop-holds c = (omega arith, sym (splice_nil (replicate 117 0) 8))
 
 mul_words : tie.Need-overflow-mul-words invariant-loop decreases-loop
 mul_words c = omega arith
@@ -44,13 +44,13 @@ loop-again c =
     let turn = c.before.loop in
     let list = c.before.before.args.t1 in
     let whole : length list ≡ 109 = c.before.before.well-formed.0.1.0.1 in
-    (omega arith, placed-more (replicate 117 0) 8 list turn.i turn.invariant.1 (omega arith) (omega arith))
+    (omega arith, placed_more (replicate 117 0) 8 list turn.i turn.invariant.1 (omega arith) (omega arith))
 
 returns : tie.Need-returns invariant-loop decreases-loop
 returns c =
     let list = c.before.before.args.t1 in
     let whole : length list ≡ 109 = c.before.before.well-formed.0.1.0.1 in
-    placed-all 8 109 list c.before.loop.i c.before.loop.invariant.1 whole (omega arith)
+    placed_all 8 109 list c.before.loop.i c.before.loop.invariant.1 whole (omega arith)
 
 pub words-with-spec : {M : Type 1} → statement M
 words-with-spec =

@@ -2,9 +2,9 @@
 use Prim.Native.Nat.{◌≤◌}
 use native.Mathlib.Omega.{arith}
 use lib.ListN.{length}
-use Rattle.lines.specs.Lines.{counted, sectorsWord, freeWord}
-use Rattle.lines.proofs.Fits.{counted-fit, counts-fit}
-use Rattle.lines.proofs.Puts.{counts-put}
+use Rattle.lines.specs.Lines.{counted, sectors_word, free_word}
+use Rattle.lines.proofs.Fits.{counted_fit, counts_fit}
+use Rattle.lines.proofs.Puts.{counts_put}
 use borrow.Author.Rules.{rules}
 use Rattle.lines.proofs.put_counts.Statement.{statement}
 use Rattle.lines.proofs.put_counts.Tie as tie
@@ -17,11 +17,11 @@ abbrev entry : tie.After-put-counted → tie.Start
 entry c = c.before.before.before.before
 
 -- each count with its word is short
-sectors-short : (c : tie.Start) → length (counted sectorsWord c.args.sectors) ≤ 28
-sectors-short c = counted-fit sectorsWord _ (omega arith)
+sectors-short : (c : tie.Start) → length (counted sectors_word c.args.sectors) ≤ 28
+sectors-short c = counted_fit sectors_word _ (omega arith)
 
-free-short : (c : tie.Start) → length (counted freeWord c.args.free) ≤ 26
-free-short c = counted-fit freeWord _ (omega arith)
+free-short : (c : tie.Start) → length (counted free_word c.args.free) ≤ 26
+free-short c = counted_fit free_word _ (omega arith)
 
 slice-aggregate-put-counted : tie.Need-slice-aggregate-put-counted
 slice-aggregate-put-counted c = search rules
@@ -53,7 +53,7 @@ returns c =
     let fed = c.before.before in
     let put = fed.before.before.before.before.before in
     let given = entry (first put) in
-    counts-put _ _ (omega (arith, given.pre, counts-fit given.args.sectors given.args.free (omega arith) (omega arith)))
+    counts_put _ _ (omega (arith, given.pre, counts_fit given.args.sectors given.args.free (omega arith) (omega arith)))
     (first put).put-counted.ensures put.put-counted2.ensures fed.put_word.ensures
 
 pub put-counts-spec : {M : Type 1} → statement M

@@ -2,7 +2,7 @@
 use Prim.Native.Nat.{◌-◌}
 use native.Mathlib.Omega.{arith}
 use lib.ListN.{length}
-use Rattle.lines.proofs.Puts.{Listing, listing-begun, listing-room, listing-on, listing-done, listing-over, item-ahead}
+use Rattle.lines.proofs.Puts.{Listing, listing_begun, listing_room, listing_on, listing_done, listing_over, item_ahead}
 use borrow.Author.Rules.{rules}
 use Rattle.lines.proofs.put_items.Statement.{statement}
 use Rattle.lines.proofs.put_items.Tie as tie
@@ -21,7 +21,7 @@ abbrev entry : tie.After-prettify invariant-loop decreases-loop → tie.Start in
 entry c = c.before.before.before.before.before
 
 loop-holds : tie.Need-loop-init invariant-loop decreases-loop
-loop-holds c = listing-begun _ _ _
+loop-holds c = listing_begun _ _ _
 
 prettify-requires : tie.Need-prettify-requires invariant-loop decreases-loop
 prettify-requires c κs = search rules
@@ -38,29 +38,29 @@ same_length c = c.before.before.before.before.loop.invariant.put.kept
 returns : tie.Need-returns invariant-loop decreases-loop
 returns c =
     let found = c.before.before in
-    listing-done found.before.before.loop.invariant found.prettify.ensures c.enum_told.given.1
+    listing_done found.before.before.loop.invariant found.prettify.ensures c.enum_told.given.1
 
 put-item-requires : tie.Need-put-item-requires invariant-loop decreases-loop
 put-item-requires c κs =
     let item = c.before.before in
-    listing-room (asked item).before.before.loop.invariant (entry (asked item)).pre (asked item).prettify.ensures item.item.given.1
+    listing_room (asked item).before.before.loop.invariant (entry (asked item)).pre (asked item).prettify.ensures item.item.given.1
 
 loop-less : tie.Need-loop-smaller invariant-loop decreases-loop
 loop-less c =
     let item = c.before.before.before.before.before in
-    omega (arith, item-ahead _ _ (asked item).prettify.ensures item.item.given.1)
+    omega (arith, item_ahead _ _ (asked item).prettify.ensures item.item.given.1)
 
 loop-again : tie.Need-loop-preserved invariant-loop decreases-loop
 loop-again c =
     let put = c.before.before in
     let item = put.before.before.before in
-    listing-on (asked item).before.before.loop.invariant (entry (asked item)).pre (asked item).prettify.ensures item.item.given.1 put.put_item.ensures
+    listing_on (asked item).before.before.loop.invariant (entry (asked item)).pre (asked item).prettify.ensures item.item.given.1 put.put_item.ensures
 
 same-length-2 : tie.Need-same-length-2 invariant-loop decreases-loop
 same-length-2 c = c.before.loop.invariant.put.kept
 
 returns-2 : tie.Need-returns-2 invariant-loop decreases-loop
-returns-2 c = listing-over c.before.loop.invariant c.loop-test.false
+returns-2 c = listing_over c.before.loop.invariant c.loop-test.false
 
 pub put-items-spec : {M : Type 1} → statement M
 put-items-spec =

@@ -2,10 +2,10 @@
 use Prim.Native.Nat.{◌*◌, ◌≤◌}
 use native.Mathlib.Omega.{arith}
 use lib.ListN.{length}
-use Rattle.consts.specs.Pretty.{prettifyOf}
-use Rattle.lines.specs.Lines.{countsLine, lines_of}
-use Rattle.lines.proofs.Fits.{counts-fit, items-fit}
-use Rattle.lines.proofs.Puts.{listed-put}
+use Rattle.consts.specs.Pretty.{prettify_of}
+use Rattle.lines.specs.Lines.{counts_line, lines_of}
+use Rattle.lines.proofs.Fits.{counts_fit, items_fit}
+use Rattle.lines.proofs.Puts.{listed_put}
 use borrow.Author.Rules.{rules}
 use Rattle.lines.proofs.put_listed.Statement.{statement}
 use Rattle.lines.proofs.put_listed.Tie as tie
@@ -18,11 +18,11 @@ abbrev entry : tie.After-shared-slice-known → tie.Start
 entry c = c.before.before
 
 -- both parts are short
-counts-short : (c : tie.Start) → length (countsLine c.args.sectors c.args.free) ≤ 55
-counts-short c = counts-fit _ _ (omega arith) (omega arith)
+counts-short : (c : tie.Start) → length (counts_line c.args.sectors c.args.free) ≤ 55
+counts-short c = counts_fit _ _ (omega arith) (omega arith)
 
-items-short : (c : tie.After-shared-slice-known) → length (lines_of (prettifyOf (entry c).args.fat.now)) ≤ 27 * length (entry c).args.fat.now
-items-short c = items-fit _ (record { each = λ i h. omega (arith, c.shared-slice-known.given i) }) (omega arith)
+items-short : (c : tie.After-shared-slice-known) → length (lines_of (prettify_of (entry c).args.fat.now)) ≤ 27 * length (entry c).args.fat.now
+items-short c = items_fit _ (record { each = λ i h. omega (arith, c.shared-slice-known.given i) }) (omega arith)
 
 put-counts-requires : tie.Need-put-counts-requires
 put-counts-requires c κs = search rules
@@ -41,7 +41,7 @@ returns c =
     let items = c.before.before in
     let put = items.before.before.before.before in
     let known = fat-known put in
-    listed-put _ _ _ (omega (arith, counts-short (entry known), items-short known, (entry known).pre)) put.put-counts.ensures items.put-items.ensures
+    listed_put _ _ _ (omega (arith, counts-short (entry known), items-short known, (entry known).pre)) put.put-counts.ensures items.put-items.ensures
 
 pub put-listed-spec : {M : Type 1} → statement M
 put-listed-spec = tie.close (tie.spec put-counts-requires put-items-requires same_length returns)

@@ -3,7 +3,7 @@ use mathlib.Core.Path.{sym, ap}
 use native.Mathlib.Omega.{arith}
 use lib.ListN.{length}
 use lib.Seq.{length-take-le}
-use Rattle.lines.proofs.Puts.{text-taken, text-within, text-put}
+use Rattle.lines.proofs.Puts.{text_taken, text_within, text_put}
 use borrow.Author.Rules.{rules}
 use Rattle.lines.proofs.put_number.Statement.{statement}
 use Rattle.lines.proofs.put_number.Tie as tie
@@ -12,13 +12,13 @@ digits-of-requires : tie.Need-digits-of-requires
 digits-of-requires c κs = search rules
 
 array-share-prefix-bytes : tie.Need-array-share-prefix-bytes
-array-share-prefix-bytes c = text-within _ c.before.before.digits_of.ensures
+array-share-prefix-bytes c = text_within _ c.before.before.digits_of.ensures
 
 slice-aggregate-put-word : tie.Need-slice-aggregate-put-word
-slice-aggregate-put-word c = sym (length-take-le _ _ (text-within _ c.before.before.before.digits_of.ensures))
+slice-aggregate-put-word c = sym (length-take-le _ _ (text_within _ c.before.before.before.digits_of.ensures))
 
 put-word-requires : tie.Need-put-word-requires
-put-word-requires c κs = omega (arith, ap length (text-taken _ c.before.before.before.digits_of.ensures))
+put-word-requires c κs = omega (arith, ap length (text_taken _ c.before.before.before.digits_of.ensures))
 
 same_length : tie.Need-same-length
 same_length c = search rules
@@ -26,7 +26,7 @@ same_length c = search rules
 returns : tie.Need-returns
 returns c =
     let put = c.before.before in
-    text-put _ put.before.before.before.before.digits_of.ensures put.put_word.ensures
+    text_put _ put.before.before.before.before.digits_of.ensures put.put_word.ensures
 
 pub put-number-spec : {M : Type 1} → statement M
 put-number-spec =

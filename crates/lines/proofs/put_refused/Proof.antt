@@ -2,9 +2,9 @@
 use Prim.Native.Nat.{◌≤◌}
 use native.Mathlib.Omega.{arith}
 use lib.ListN.{length}
-use Rattle.lines.specs.Lines.{counted, refusedWord}
-use Rattle.lines.proofs.Fits.{counted-fit, refused-fit}
-use Rattle.lines.proofs.Puts.{refused-put}
+use Rattle.lines.specs.Lines.{counted, refused_word}
+use Rattle.lines.proofs.Fits.{counted_fit, refused_fit}
+use Rattle.lines.proofs.Puts.{refused_put}
 use borrow.Author.Rules.{rules}
 use Rattle.lines.proofs.put_refused.Statement.{statement}
 use Rattle.lines.proofs.put_refused.Tie as tie
@@ -13,8 +13,8 @@ use Rattle.lines.proofs.put_refused.Tie as tie
 abbrev entry : tie.After-put-counted → tie.Start
 entry c = c.before.before.before.before
 
-number_short : (c : tie.Start) → length (counted refusedWord c.args.no) ≤ 28
-number_short c = counted-fit refusedWord _ (omega arith)
+number_short : (c : tie.Start) → length (counted refused_word c.args.no) ≤ 28
+number_short c = counted_fit refused_word _ (omega arith)
 
 slice-aggregate-put-counted : tie.Need-slice-aggregate-put-counted
 slice-aggregate-put-counted c = search rules
@@ -37,7 +37,7 @@ returns : tie.Need-returns
 returns c =
     let fed = c.before.before in
     let put = fed.before.before.before.before.before in
-    refused-put _ (omega (arith, (entry put).requires, refused-fit (entry put).args.no (omega arith))) put.put-counted.ensures fed.put_word.ensures
+    refused_put _ (omega (arith, (entry put).requires, refused_fit (entry put).args.no (omega arith))) put.put-counted.ensures fed.put_word.ensures
 
 pub put-refused-spec : {M : Type 1} → statement M
 put-refused-spec =

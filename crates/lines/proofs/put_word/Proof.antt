@@ -1,5 +1,5 @@
 -- `put_word` meets its contract: the word is copied over the part that it fills. Assumes nothing.
-use Rattle.lines.proofs.Puts.{word-put}
+use Rattle.lines.proofs.Puts.{word_put}
 use borrow.Author.Rules.{rules}
 use Rattle.lines.proofs.put_word.Statement.{statement}
 use Rattle.lines.proofs.put_word.Tie as tie
@@ -25,7 +25,7 @@ same_length c = search rules
 returns : tie.Need-returns
 returns c =
     let copied = c.before.before in
-    word-put _ _ _ copied.before.before.before.before.requires copied.copy.ensures
+    word_put _ _ _ copied.before.before.before.before.requires copied.copy.ensures
 
 pub put-word-spec : {M : Type 1} → statement M
 put-word-spec =

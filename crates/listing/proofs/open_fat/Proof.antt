@@ -5,7 +5,7 @@ use mathlib.Core.List.{List}
 use native.Mathlib.Omega.{arith}
 use lib.ListN.{length, replicate}
 use Rattle.alloc.specs.Opening.{Tables, shortest}
-use Rattle.listing.proofs.Opened.{shortest-is, opened-fat}
+use Rattle.listing.proofs.Opened.{shortest_is, opened_fat}
 use borrow.Author.Rules.{rules}
 use Rattle.listing.proofs.open_fat.Statement.{statement}
 use Rattle.listing.proofs.open_fat.Tie as tie
@@ -25,7 +25,7 @@ fat-whole : (c : tie.After-open) → length (lent c).fat ≡ 128
 fat-whole c = omega arith
 
 all_whole : (c : tie.After-open) → shortest (lent c) ≡ 128
-all_whole c = shortest-is (lent c) (fat-whole c) (omega arith) (omega arith) (omega arith) (omega arith)
+all_whole c = shortest_is (lent c) (fat-whole c) (omega arith) (omega arith) (omega arith) (omega arith)
 
 slice-aggregate-open : tie.Need-slice-aggregate-open
 slice-aggregate-open c = search rules
@@ -45,7 +45,7 @@ open-requires c κs = search rules
 returns : tie.Need-returns
 returns c =
     let opened = c.before.before.before.before in
-    opened-fat (img opened) _ (lent opened) _ _ (entry opened).requires (fat-whole opened) (all_whole opened) opened.«open».ensures
+    opened_fat (img opened) _ (lent opened) _ _ (entry opened).requires (fat-whole opened) (all_whole opened) opened.«open».ensures
 
 pub open-fat-spec : {M : Type 1} → statement M
 open-fat-spec =

@@ -1,6 +1,6 @@
 -- `opened_as` meets its contract: the opening's own, and that of the comparison of what it gave. Assumes nothing.
-use Rattle.openings.specs.Openings.{lentTables}
-use Rattle.openings.proofs.Opened.{opening-said}
+use Rattle.openings.specs.Openings.{lent_tables}
+use Rattle.openings.proofs.Opened.{opening_said}
 use borrow.Author.Rules.{rules}
 use Rattle.openings.proofs.opened_as.Statement.{statement}
 use Rattle.openings.proofs.opened_as.Tie as tie
@@ -58,8 +58,8 @@ record-says-requires : tie.Need-record-says-requires
 record-says-requires c κs = search rules
 
 returns : tie.Need-returns
-unfolding lentTables
-returns c = λ e. opening-said _ _ (at-mode c).mode-in.ensures (at_open c).«open».ensures (at-number c).number.ensures (c.record-says.ensures e)
+unfolding lent_tables
+returns c = λ e. opening_said _ _ (at-mode c).mode-in.ensures (at_open c).«open».ensures (at-number c).number.ensures (c.record-says.ensures e)
 
 pub opened-as-spec : {M : Type 1} → statement M
 opened-as-spec =

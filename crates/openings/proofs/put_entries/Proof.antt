@@ -1,6 +1,6 @@
 -- `put_entries` meets its contract: FREE everywhere, and the entries copied over the front. Assumes nothing.
 use Rattle.lists.specs.Lists.{part}
-use Rattle.openings.proofs.Opened.{entries-put}
+use Rattle.openings.proofs.Opened.{entries_put}
 use borrow.Author.Rules.{rules}
 use Rattle.openings.proofs.put_entries.Statement.{statement}
 use Rattle.openings.proofs.put_entries.Tie as tie
@@ -31,7 +31,7 @@ returns : tie.Need-returns
 unfolding part
 returns c =
     let filled = at_fill c in
-    entries-put _ filled.before.before.before.before.pre.1 filled.fill.ensures c.before.before.copy.ensures
+    entries_put _ filled.before.before.before.before.pre.1 filled.fill.ensures c.before.before.copy.ensures
 
 pub put-entries-spec : {M : Type 1} → statement M
 put-entries-spec =

@@ -1,6 +1,6 @@
 -- `put_sectors` meets its contract: zeros everywhere, the header over them, and the entries over their sector. Assumes nothing.
 use Rattle.lists.specs.Lists.{part}
-use Rattle.openings.proofs.Opened.{sectors-put}
+use Rattle.openings.proofs.Opened.{sectors_put}
 use borrow.Author.Rules.{rules}
 use Rattle.openings.proofs.put_sectors.Statement.{statement}
 use Rattle.openings.proofs.put_sectors.Tie as tie
@@ -56,7 +56,7 @@ unfolding part
 returns c =
     let given = at-start c in
     let filled = (at_copy c).before.before.before.before.before in
-    sectors-put _ given.args.place given.pre.0 given.pre.1 given.pre.3 filled.fill.ensures (at_copy c).copy.ensures c.before.before.put_entries.ensures
+    sectors_put _ given.args.place given.pre.0 given.pre.1 given.pre.3 filled.fill.ensures (at_copy c).copy.ensures c.before.before.put_entries.ensures
 
 pub put-sectors-spec : {M : Type 1} → statement M
 put-sectors-spec =

@@ -1,7 +1,7 @@
 -- `record_says` meets its contract: the comparisons of the record's kind, and of a chain the call's own. Assumes nothing.
-use Rattle.openings.specs.Openings.{start_in, lentIds, Says}
+use Rattle.openings.specs.Openings.{start_in, lent_ids, Says}
 use Rattle.records.proofs.Held.{never, not-false}
-use Rattle.openings.proofs.Opened.{chain-told}
+use Rattle.openings.proofs.Opened.{chain_told}
 use borrow.Author.Rules.{rules}
 use Rattle.openings.proofs.record_says.Statement.{statement}
 use Rattle.openings.proofs.record_says.Tie as tie
@@ -53,12 +53,12 @@ same-told-requires : tie.Need-same-told-requires
 same-told-requires c κs = search rules
 
 returns-5 : tie.Need-returns-5
-unfolding start_in lentIds
+unfolding start_in lent_ids
 returns-5 c =
     let called = at_call c in
     let tested = at-number c in
     λ e.
-    Says.chains tested.before.if3.left tested.if4.left (chain-told _ called.before.before.read32.ensures called.open-chain.ensures (c.same-told.ensures e))
+    Says.chains tested.before.if3.left tested.if4.left (chain_told _ called.before.before.read32.ensures called.open-chain.ensures (c.same-told.ensures e))
 
 pub record-says-spec : {M : Type 1} → statement M
 record-says-spec =

@@ -4,7 +4,7 @@ use native.Mathlib.Omega.{arith}
 use lib.Seq.{length-take-le}
 use Rattle.openings.specs.Openings.{place_in}
 use Rattle.records.proofs.Held.{never}
-use Rattle.openings.proofs.Opened.{image-agrees}
+use Rattle.openings.proofs.Opened.{image_agrees}
 use borrow.Author.Rules.{rules}
 use Rattle.openings.proofs.same_image.Statement.{statement}
 use Rattle.openings.proofs.same_image.Tie as tie
@@ -58,7 +58,7 @@ unfolding place_in
 returns-3 c =
     let placed = (at-put c).before.before in
     λ e.
-    image-agrees _ (at_length c).length-in.ensures placed.before.before.if1.left refl placed.if2.left (at-put c).put-sectors.ensures (c.opened-as.ensures e)
+    image_agrees _ (at_length c).length-in.ensures placed.before.before.if1.left refl placed.if2.left (at-put c).put-sectors.ensures (c.opened-as.ensures e)
 
 pub same-image-spec : {M : Type 1} → statement M
 same-image-spec =

@@ -1,6 +1,6 @@
 -- `same_table` meets its contract: the table is compared with the numbers that were taken. Assumes nothing.
 use mathlib.Core.Path.{◌∙◌, sym}
-use Rattle.lists.proofs.Splice.{sameList-true}
+use Rattle.lists.proofs.Splice.{sameList_true}
 use borrow.Author.Rules.{rules}
 use Rattle.openings.proofs.same_table.Statement.{statement}
 use Rattle.openings.proofs.same_table.Tie as tie
@@ -18,7 +18,7 @@ same-numbers-requires : tie.Need-same-numbers-requires
 same-numbers-requires c κs = search rules
 
 returns : tie.Need-returns
-returns c = λ e. sameList-true _ _ (sym c.same_numbers.ensures ∙ e) ∙ c.before.before.before.take-numbers.ensures
+returns c = λ e. sameList_true _ _ (sym c.same_numbers.ensures ∙ e) ∙ c.before.before.before.take-numbers.ensures
 
 pub same-table-spec : {M : Type 1} → statement M
 same-table-spec =

@@ -2,7 +2,7 @@
 use mathlib.Core.Path.{◌∙◌, sym}
 use Rattle.lists.specs.Lists.{part}
 use Rattle.records.proofs.Held.{never, not-false}
-use Rattle.openings.proofs.Opened.{tables-same}
+use Rattle.openings.proofs.Opened.{tables_same_lem}
 use borrow.Author.Rules.{rules}
 use Rattle.openings.proofs.same_tables.Statement.{statement}
 use Rattle.openings.proofs.same_tables.Tie as tie
@@ -17,8 +17,8 @@ at-fats c = (at-difats c).before.before.before
 abbrev at-frees : tie.After-same → tie.Else2
 at-frees c = (at-fats c).before.before.before
 
-abbrev at-fat : tie.After-same → tie.Else1
-at-fat c = (at-frees c).before.before.before
+abbrev at_fat : tie.After-same → tie.Else1
+at_fat c = (at-frees c).before.before.before
 
 sub-same-table : tie.Need-overflow-sub-same-table
 sub-same-table c = search rules
@@ -95,12 +95,12 @@ same-requires c κs = search rules
 returns-5 : tie.Need-returns-5
 unfolding part
 returns-5 c =
-    let fat = at-fat c in
+    let fat = at_fat c in
     let frees = at-frees c in
     let fats = at-fats c in
     let difats = at-difats c in
     λ e.
-    tables-same _ (fat.before.same-table.ensures (not-false _ fat.if1.left)) (frees.before.same-table2.ensures (not-false _ frees.if2.left))
+    tables_same_lem _ (fat.before.same-table.ensures (not-false _ fat.if1.left)) (frees.before.same-table2.ensures (not-false _ frees.if2.left))
     (fats.before.same-table3.ensures (not-false _ fats.if3.left)) (difats.before.same-table4.ensures (not-false _ difats.if4.left)) (sym c.same.ensures ∙ e)
 
 pub same-tables-spec : {M : Type 1} → statement M

@@ -38,11 +38,11 @@ use denote.Triple.Table.{entered, cited}
 use denote.Triple.Walked.{says, Stays, stay_none_slice, walk_of, Goes-none_slice, Walks, ends_at, walked, walk_Meets}
 use denote.Triple.Clauses.{ensured, lasts}
 use denote.Exit.{yes}
-use Rattle.reader.specs.Serve.{served_at, stepped, numbersOf}
+use Rattle.reader.specs.Serve.{served_at, stepped, numbers_of}
 use Rattle.reader.specs.declared.Reader.{Reader}
 use Rattle.reader.specs.declared.Numbers.{Numbers}
-use Rattle.reader.proofs.Serving.{place-moves, steps}
-use Rattle.reader.proofs.Lending.{Reads, B, Is-found, serves}
+use Rattle.reader.proofs.Serving.{place_moves, steps}
+use Rattle.reader.proofs.Lending.{Reads, B, Is_found, serves}
 use Rattle.reader.specs.contracts.Reader as T
 use Rattle.reader.proofs.Reader.TheLaws as T'
 use Rattle.reader.specs.contracts.Numbers as N
@@ -68,7 +68,7 @@ module _ {M : Type 1} {𝓤 : Ura M} (𝓛 : Logic 𝓤) (mem : Memory → SProp
   New = triple_of 𝓛 new.signature (new.spec 𝓛 mem run)
 
 -- what is known of a number that was read, as the typing of the local that it is stored in
-typed : (h : Reader) (u : Val) → Is-found h u → Holds (has_ty (ty_int w32) u) × WT u
+typed : (h : Reader) (u : Val) → Is_found h u → Holds (has_ty (ty_int w32) u) × WT u
 typed h u e = subst (λ (w : Val). Holds (has_ty (ty_int w32) w) × WT w) (sym e.0) (tt, record { fits = e.1 })
 
 module _ {M : Type 1} {𝓤 : Ura M} (𝓛 : Logic 𝓤) (mem : Memory → SProp 𝓤) (run : Routine → Fun 𝓤) (κ : Lft) (q : Share) (s : Bor (List ℕ)) where
@@ -86,7 +86,7 @@ module _ {M : Type 1} {𝓤 : Ura M} (𝓛 : Logic 𝓤) (mem : Memory → SProp
   n i = served_at s.now i
 
   on : (i : ℕ) → i < 18 → stepped (h i) ≡ h (i + 1)
-  on i lt = sym (steps (h i) (i + 1) (sym (place-moves i lt)))
+  on i lt = sym (steps (h i) (i + 1) (sym (place_moves i lt)))
 
   abbrev made : Numbers
   made = record { minor = n 2; major = n 3; order = n 4; shift = n 5; mini = n 6; dirs = n 8; fats = n 9; dir = n 10; transaction = n 11; cutoff = n 12; minifat = n 13; minifats = n 14; difat = n 15; difats = n 16 }
@@ -118,7 +118,7 @@ module _ {M : Type 1} {𝓤 : Ura M} (𝓛 : Logic 𝓤) (mem : Memory → SProp
   -- what whoever returns the numbers owes: each has 32 bits
   exits : n 2 < 2 ^ 32 → n 3 < 2 ^ 32 → n 4 < 2 ^ 32 → n 5 < 2 ^ 32 → n 6 < 2 ^ 32 → n 8 < 2 ^ 32 → n 9 < 2 ^ 32 → n 10 < 2 ^ 32 → n 11 < 2 ^ 32 → n 12 < 2 ^ 32 → n 13 < 2 ^ 32 → n 14 < 2 ^ 32 → n 15 < 2 ^ 32 → n 16 < 2 ^ 32
       → ent 𝓤 (⋆ 𝓛 (‵ (flft κ q) ∷ ‵ Own ∷ [])) (Post (N'.lowered made))
-  unfolding numbersOf
+  unfolding numbers_of
   exits b2 b3 b4 b5 b6 b8 b9 b10 b11 b12 b13 b14 b15 b16 =
       qed 𝓛 (‵ (flft κ q) ∷ ‵ Own ∷ []) ∵
       suffices ! _ (ends_at 𝓛 read-fields.ended stayed (read-fields.clauses 𝓛 mem run) (((κ, tt), (q, tt), tt, (s, tt), (v ∷ [], tt)), tt) (N'.lowered made) made (tt, tt) (tt, tt)) $ says ! refl $

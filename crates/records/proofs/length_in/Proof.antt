@@ -1,5 +1,5 @@
 -- `length_in` meets its contract: what `read16` reads. Assumes nothing.
-use Rattle.records.specs.Records.{lengthIn}
+use Rattle.records.specs.Records.{length_in}
 use borrow.Author.Rules.{rules}
 use Rattle.records.proofs.length_in.Statement.{statement}
 use Rattle.records.proofs.length_in.Tie as tie
@@ -11,7 +11,7 @@ cast-result : tie.Need-overflow-cast-result
 cast-result c = search rules
 
 returns : tie.Need-returns
-unfolding lengthIn
+unfolding length_in
 returns c = c.read16.ensures
 
 pub length-in-spec : {M : Type 1} → statement M

@@ -1,6 +1,6 @@
 -- `mode_in` meets its contract: a byte fits a wider number, and `mode_of` gives its mode. Assumes nothing.
 use native.Mathlib.Omega.{arith}
-use Rattle.records.specs.Records.{modeIn}
+use Rattle.records.specs.Records.{mode_in}
 use borrow.Author.Rules.{rules}
 use Rattle.records.proofs.mode_in.Statement.{statement}
 use Rattle.records.proofs.mode_in.Tie as tie
@@ -15,7 +15,7 @@ mode-of-requires : tie.Need-mode-of-requires
 mode-of-requires c κs = search rules
 
 returns : tie.Need-returns
-unfolding modeIn
+unfolding mode_in
 returns c = c.Mode-of.ensures
 
 pub mode-in-spec : {M : Type 1} → statement M

@@ -7,8 +7,8 @@ use lib.ListN.{length, drop, set, length-set}
 use Rattle.lists.specs.Lists.{tab}
 use Rattle.lists.proofs.Tab.{filled_none, filled_more}
 use Rattle.words.specs.Words.{le}
-use Rattle.records.specs.Records.{numbersIn}
-use Rattle.records.proofs.Held.{filled-all}
+use Rattle.records.specs.Records.{numbers_in}
+use Rattle.records.proofs.Held.{filled_all}
 use Rattle.records.proofs.take_numbers.Statement.{statement}
 use Rattle.records.proofs.take_numbers.Tie as tie
 
@@ -53,8 +53,8 @@ same_length : tie.Need-same-length invariant-loop decreases-loop
 same_length c = omega arith
 
 returns : tie.Need-returns invariant-loop decreases-loop
-unfolding numbersIn
-returns c = filled-all _ _ c.before.loop.i c.before.loop.invariant.1 (omega arith) (omega arith)
+unfolding numbers_in
+returns c = filled_all _ _ c.before.loop.i c.before.loop.invariant.1 (omega arith) (omega arith)
 
 pub take-numbers-spec : {M : Type 1} → statement M
 take-numbers-spec =

@@ -33,7 +33,7 @@ same-image-requires : tie.Need-same-image-requires
 same-image-requires c κs = search rules
 
 returns-5 : tie.Need-returns-5
-returns-5 c = λ e. Agrees.images (c.same-image.ensures e)
+returns-5 c = λ e. Agrees.images (c.same_image.ensures e)
 
 pub same-answer-spec : {M : Type 1} → statement M
 same-answer-spec =

@@ -3,7 +3,7 @@ use Prim.Native.Nat.{ℕ, ◌-◌}
 use mathlib.Core.Path.{sym, ap}
 use native.Mathlib.Omega.{arith}
 use lib.Dec.{leb}
-use Rattle.room.proofs.Needing.{Counts, counts-begun, counts-on, counts-over, counts_past}
+use Rattle.room.proofs.Needing.{Counts, counts_begun, counts_on, counts_over, counts_past}
 use Rattle.room.proofs.has_room.Statement.{statement}
 use Rattle.room.proofs.has_room.Tie as tie
 
@@ -20,7 +20,7 @@ returns : tie.Need-returns invariant-loop decreases-loop
 returns c = let g = c.before.requires in counts_past _ _ _ _ g.2 c.if1.true
 
 loop-holds : tie.Need-loop-init invariant-loop decreases-loop
-loop-holds c = counts-begun _ _ _ _ c.if1.false
+loop-holds c = counts_begun _ _ _ _ c.if1.false
 
 one-more-requires : tie.Need-one-more-requires invariant-loop decreases-loop
 one-more-requires c κs =
@@ -35,10 +35,10 @@ loop-less : tie.Need-loop-smaller invariant-loop decreases-loop
 loop-less c = omega (arith, c.before.loop-test.true)
 
 loop-again : tie.Need-loop-preserved invariant-loop decreases-loop
-loop-again c = counts-on _ _ _ _ _ _ _ c.before.before.loop.invariant c.before.loop-test.true c.one_more.ensures
+loop-again c = counts_on _ _ _ _ _ _ _ c.before.before.loop.invariant c.before.loop-test.true c.one_more.ensures
 
 returns-2 : tie.Need-returns-2 invariant-loop decreases-loop
-returns-2 c = ap (λ (k : ℕ). leb k c.before.before.before.args.room) (sym (counts-over _ _ _ _ _ _ c.before.loop.invariant c.loop-test.false))
+returns-2 c = ap (λ (k : ℕ). leb k c.before.before.before.args.room) (sym (counts_over _ _ _ _ _ _ c.before.loop.invariant c.loop-test.false))
 
 pub has-room-spec : {M : Type 1} → statement M
 has-room-spec =

@@ -1,5 +1,5 @@
 -- An entry is by definition the four bytes from 4 j on.
-use Rattle.sectors.specs.Sectors.{entryIn}
+use Rattle.sectors.specs.Sectors.{entry_in}
 use borrow.Author.Rules.{rules}
 use Rattle.sectors.proofs.entry.Statement.{statement}
 use Rattle.sectors.proofs.entry.Tie as tie
@@ -11,7 +11,7 @@ read32-requires : tie.Need-read32-requires
 read32-requires c κs = search rules
 
 returns : tie.Need-returns
-unfolding entryIn
+unfolding entry_in
 returns c = c.read32.ensures
 
 pub entry_spec : {M : Type 1} → statement M

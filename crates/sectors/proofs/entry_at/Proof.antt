@@ -3,8 +3,8 @@ use mathlib.Core.Path.{◌∙◌, ap}
 use mathlib.Core.List.{List}
 use Prim.Native.Nat.{ℕ, ◌+◌}
 use native.Mathlib.Omega.{arith}
-use Rattle.sectors.specs.Sectors.{entryIn}
-use Rattle.sectors.proofs.Laws.{scaled, lent-sector}
+use Rattle.sectors.specs.Sectors.{entry_in}
+use Rattle.sectors.proofs.Laws.{scaled, lent_sector}
 use borrow.Author.Rules.{rules}
 use Rattle.sectors.proofs.entry_at.Statement.{statement}
 use Rattle.sectors.proofs.entry_at.Tie as tie
@@ -32,7 +32,7 @@ entry-requires c κs = search rules
 
 returns : tie.Need-returns
 returns c = let g = c.before.before.before in
-    c.entry.ensures ∙ ap (λ (l : List ℕ). entryIn l g.args.j) (lent-sector g.args.s g.args.id g.args.image.now)
+    c.entry.ensures ∙ ap (λ (l : List ℕ). entry_in l g.args.j) (lent_sector g.args.s g.args.id g.args.image.now)
 
 pub entry-at-spec : {M : Type 1} → statement M
 entry-at-spec =

@@ -3,8 +3,8 @@ use mathlib.Core.Path.{◌∙◌, ap}
 use mathlib.Core.List.{List}
 use Prim.Native.Nat.{ℕ, ◌+◌}
 use native.Mathlib.Omega.{arith}
-use Rattle.sectors.specs.Sectors.{freeFrom}
-use Rattle.sectors.proofs.Laws.{scaled, lent-sector}
+use Rattle.sectors.specs.Sectors.{free_from}
+use Rattle.sectors.proofs.Laws.{scaled, lent_sector}
 use borrow.Author.Rules.{rules}
 use Rattle.sectors.proofs.free_at.Statement.{statement}
 use Rattle.sectors.proofs.free_at.Tie as tie
@@ -32,7 +32,7 @@ free-from-requires c κs = search rules
 
 returns : tie.Need-returns
 returns c = let g = c.before.before.before in
-    c.free-from.ensures ∙ ap (λ (l : List ℕ). freeFrom l g.args.from g.args.count) (lent-sector g.args.s g.args.id g.args.image.now)
+    c.free-from.ensures ∙ ap (λ (l : List ℕ). free_from l g.args.from g.args.count) (lent_sector g.args.s g.args.id g.args.image.now)
 
 pub free-at-spec : {M : Type 1} → statement M
 free-at-spec =

@@ -5,20 +5,20 @@ use mathlib.Core.List.{List, ◌++◌}
 use native.Mathlib.Omega.{arith}
 use lib.ListN.{length, drop, set, length-set}
 use Rattle.lists.specs.Lists.{tab}
-use Rattle.lists.proofs.Tab.{filled_none, filled_more, filled-all}
-use Rattle.sectors.specs.Sectors.{entryIn}
+use Rattle.lists.proofs.Tab.{filled_none, filled_more, filled_all}
+use Rattle.sectors.specs.Sectors.{entry_in}
 use Rattle.sectors.proofs.load.Statement.{statement}
 use Rattle.sectors.proofs.load.Tie as tie
 
 abbrev invariant-loop : tie.invariant-loop
-invariant-loop sector out₀ j₀ out j = (j ≤ length out₀) × (out ≡ tab (entryIn sector) j ++ drop j out₀) × (length out ≡ length out₀)
+invariant-loop sector out₀ j₀ out j = (j ≤ length out₀) × (out ≡ tab (entry_in sector) j ++ drop j out₀) × (length out ≡ length out₀)
 
 abbrev decreases-loop : tie.decreases-loop
 decreases-loop sector out₀ j₀ out j = length out₀ - j
 
 loop-holds : tie.Need-loop-init invariant-loop decreases-loop
 loop-holds c = let g = c.before.before in
-    (omega arith, filled_none (entryIn g.args.sector.now) g.args.out.now, refl)
+    (omega arith, filled_none (entry_in g.args.sector.now) g.args.out.now, refl)
 
 mul-read32 : tie.Need-overflow-mul-read32 invariant-loop decreases-loop
 mul-read32 c = omega arith
@@ -39,7 +39,7 @@ loop-less : tie.Need-loop-smaller invariant-loop decreases-loop
 loop-less c = omega arith
 
 loop-again : tie.Need-loop-preserved invariant-loop decreases-loop
-unfolding entryIn
+unfolding entry_in
 loop-again c = let l = c.before.before.loop in
     (omega arith, ap (λ (u : List ℕ). set u l.j c.read32.result) l.invariant.1 ∙ filled_more _ _ _ _ (omega arith) c.read32.ensures, simp length-set (omega arith))
 
@@ -48,7 +48,7 @@ same_length c = omega arith
 
 returns : tie.Need-returns invariant-loop decreases-loop
 returns c = let l = c.before.loop in
-    filled-all _ c.before.before.before.before.args.out.now _ l.j (omega arith) l.invariant.1
+    filled_all _ c.before.before.before.before.args.out.now _ l.j (omega arith) l.invariant.1
 
 pub load_spec : {M : Type 1} → statement M
 load_spec =

@@ -5,8 +5,8 @@ use Prim.Native.Nat.{ℕ, ◌+◌}
 use native.Mathlib.Omega.{arith}
 use lib.ListN.{length}
 use Rattle.lists.specs.Lists.{tab}
-use Rattle.sectors.specs.Sectors.{entryIn}
-use Rattle.sectors.proofs.Laws.{scaled, lent-sector}
+use Rattle.sectors.specs.Sectors.{entry_in}
+use Rattle.sectors.proofs.Laws.{scaled, lent_sector}
 use borrow.Author.Rules.{rules}
 use Rattle.sectors.proofs.load_at.Statement.{statement}
 use Rattle.sectors.proofs.load_at.Tie as tie
@@ -38,7 +38,7 @@ same_length c = search rules
 returns : tie.Need-returns
 returns c = let loaded = c.before.before in
     let g = loaded.before.before.before.before.before in
-    loaded.load.ensures ∙ ap (λ (l : List ℕ). tab (entryIn l) (length g.args.out.now)) (lent-sector g.args.s g.args.id g.args.image.now)
+    loaded.load.ensures ∙ ap (λ (l : List ℕ). tab (entry_in l) (length g.args.out.now)) (lent_sector g.args.s g.args.id g.args.image.now)
 
 pub load-at-spec : {M : Type 1} → statement M
 load-at-spec =

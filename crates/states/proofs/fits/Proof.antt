@@ -3,13 +3,13 @@ use Prim.Native.Nat.{◌+◌, ◌≤◌, ◌-◌}
 use mathlib.Core.Path.{◌≡◌, refl}
 use native.Mathlib.Omega.{arith}
 use lib.ListN.{length, drop}
-use Rattle.states.specs.States.{fitsIn}
-use Rattle.states.proofs.Holding.{fits_more, fits-stop, fits-end}
+use Rattle.states.specs.States.{fits_in}
+use Rattle.states.proofs.Holding.{fits_more, fits_stop, fits_end}
 use Rattle.states.proofs.fits.Statement.{statement}
 use Rattle.states.proofs.fits.Tie as tie
 
 abbrev invariant-loop : tie.invariant-loop
-invariant-loop words i₀ i = (i ≤ 117) × (fitsIn (drop 4 words) ≡ fitsIn (drop (4 + i) words))
+invariant-loop words i₀ i = (i ≤ 117) × (fits_in (drop 4 words) ≡ fits_in (drop (4 + i) words))
 
 abbrev decreases-loop : tie.decreases-loop
 decreases-loop words i₀ i = 117 - i
@@ -31,7 +31,7 @@ returns c =
     let l = c.before.before.loop in
     let words = c.before.before.before.args.t1 in
     let whole : length words ≡ 121 = c.before.before.before.well-formed.0.1.0.1 in
-    fits-stop words l.i l.invariant.1 (omega arith) c.if1.true
+    fits_stop words l.i l.invariant.1 (omega arith) c.if1.true
 
 add-i : tie.Need-overflow-add-i invariant-loop decreases-loop
 add-i c = omega arith
@@ -51,7 +51,7 @@ returns-2 c =
     let l = c.before.loop in
     let words = c.before.before.args.t1 in
     let whole : length words ≡ 121 = c.before.before.well-formed.0.1.0.1 in
-    fits-end words l.i l.invariant.1 (omega arith)
+    fits_end words l.i l.invariant.1 (omega arith)
 
 pub fits-spec : {M : Type 1} → statement M
 fits-spec =

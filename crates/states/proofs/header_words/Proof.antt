@@ -4,9 +4,9 @@ use mathlib.Core.Path.{◌≡◌, sym}
 use native.Mathlib.Omega.{arith}
 use lib.ListN.{length, take, drop, replicate}
 use Rattle.lists.specs.Lists.{splice}
-use Rattle.lists.proofs.Splice.{splice-nil}
+use Rattle.lists.proofs.Splice.{splice_nil}
 use Rattle.states.proofs.Holding.{fits_word}
-use Rattle.layout.proofs.Placing.{taken_more, taken-list}
+use Rattle.layout.proofs.Placing.{taken_more, taken_list}
 use Rattle.states.proofs.header_words.Statement.{statement}
 use Rattle.states.proofs.header_words.Tie as tie
 
@@ -17,7 +17,7 @@ abbrev decreases-loop : tie.decreases-loop
 decreases-loop words held₀ i₀ held i = 117 - i
 
 loop-holds : tie.Need-loop-init invariant-loop decreases-loop
-loop-holds c = (omega arith, sym (splice-nil (replicate 117 0) 0))
+loop-holds c = (omega arith, sym (splice_nil (replicate 117 0) 0))
 
 add-narrow : tie.Need-overflow-add-narrow invariant-loop decreases-loop
 add-narrow c = omega arith
@@ -57,7 +57,7 @@ returns : tie.Need-returns invariant-loop decreases-loop
 returns c =
     let words = c.before.before.args.t1 in
     let whole : length words ≡ 121 = c.before.before.well-formed.0.1.0.1 in
-    taken-list 4 117 words c.before.loop.i c.before.loop.invariant.1 whole (omega arith)
+    taken_list 4 117 words c.before.loop.i c.before.loop.invariant.1 whole (omega arith)
 
 pub header-words-spec : {M : Type 1} → statement M
 header-words-spec =

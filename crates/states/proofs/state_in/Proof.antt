@@ -2,9 +2,9 @@
 use mathlib.Core.Path.{◌≡◌, ◌∙◌, ap}
 use lib.ListN.{length}
 use Rattle.layout.specs.Layout.{mode_of}
-use Rattle.states.specs.States.{stateWords}
-use Rattle.states.proofs.Again.{words-again}
-use Rattle.states.proofs.Holding.{holds-mode, holds_fits, state-held}
+use Rattle.states.specs.States.{state_words}
+use Rattle.states.proofs.Again.{words_again}
+use Rattle.states.proofs.Holding.{holds_mode, holds_fits, state_held}
 use borrow.Author.Rules.{rules}
 use Rattle.states.proofs.state_in.Statement.{statement}
 use Rattle.states.proofs.state_in.Tie as tie
@@ -25,7 +25,7 @@ array-read-narrow : tie.Need-array-read-narrow
 array-read-narrow c = search rules
 
 narrow-requires : tie.Need-narrow-requires
-narrow-requires c κs = holds-mode _ c.before.before.before.requires
+narrow-requires c κs = holds_mode _ c.before.before.before.requires
 
 mode-of-requires : tie.Need-mode-of-requires
 mode-of-requires c κs = search rules
@@ -44,8 +44,8 @@ returns c =
     let start = c.before.before.before.before.before in
     let words = start.args.t1 in
     let whole : length words ≡ 121 = start.well-formed.0.1.0.1 in
-    let held = state-held words _ c.before.before.before.before.header-words.ensures c.before.before.before.version_of.ensures c.before.before.header-with.ensures (c.Mode-of.ensures ∙ ap mode_of c.before.narrow.ensures) in
-    (held, ap stateWords held ∙ words-again words whole start.requires)
+    let held = state_held words _ c.before.before.before.before.header-words.ensures c.before.before.before.version_of.ensures c.before.before.header-with.ensures (c.Mode-of.ensures ∙ ap mode_of c.before.narrow.ensures) in
+    (held, ap state_words held ∙ words_again words whole start.requires)
 
 pub state-in-spec : {M : Type 1} → statement M
 state-in-spec =

@@ -5,8 +5,8 @@ use native.Mathlib.Omega.{arith}
 use borrow.Author.Rules.{rules}
 use lib.ListN.{length, take, replicate}
 use Rattle.lists.specs.Lists.{splice}
-use Rattle.lists.proofs.Splice.{splice-nil}
-use Rattle.layout.proofs.Placing.{placed-more, placed-all}
+use Rattle.lists.proofs.Splice.{splice_nil}
+use Rattle.layout.proofs.Placing.{placed_more, placed_all}
 use Rattle.states.proofs.state_with.Statement.{statement}
 use Rattle.states.proofs.state_with.Tie as tie
 
@@ -17,7 +17,7 @@ abbrev decreases-loop : tie.decreases-loop
 decreases-loop header words₀ i₀ words i = 117 - i
 
 loop-holds : tie.Need-loop-init invariant-loop decreases-loop
-loop-holds c = (omega arith, sym (splice-nil (replicate 121 0) 4))
+loop-holds c = (omega arith, sym (splice_nil (replicate 121 0) 4))
 
 mul_wide : tie.Need-overflow-mul-wide invariant-loop decreases-loop
 mul_wide c = omega arith
@@ -48,13 +48,13 @@ loop-again c =
     let turn = c.before.before.loop in
     let header = c.before.before.before.args.t1 in
     let whole : length header ≡ 117 = c.before.before.before.well-formed.0.1.0.1 in
-    (omega arith, rw c.wide.ensures (placed-more (replicate 121 0) 4 header turn.i turn.invariant.1 (omega arith) (omega arith)))
+    (omega arith, rw c.wide.ensures (placed_more (replicate 121 0) 4 header turn.i turn.invariant.1 (omega arith) (omega arith)))
 
 returns : tie.Need-returns invariant-loop decreases-loop
 returns c =
     let header = c.before.before.args.t1 in
     let whole : length header ≡ 117 = c.before.before.well-formed.0.1.0.1 in
-    placed-all 4 117 header c.before.loop.i c.before.loop.invariant.1 whole (omega arith)
+    placed_all 4 117 header c.before.loop.i c.before.loop.invariant.1 whole (omega arith)
 
 pub state-with-spec : {M : Type 1} → statement M
 state-with-spec =

@@ -1,6 +1,6 @@
 -- `states::words_of_state` meets its contract: the four numbers are stored over the zeros before the header's words.
 use borrow.Author.Rules.{rules}
-use Rattle.states.proofs.Holding.{state-stored}
+use Rattle.states.proofs.Holding.{state_stored}
 use Rattle.states.proofs.words_of_state.Statement.{statement}
 use Rattle.states.proofs.words_of_state.Tie as tie
 
@@ -26,7 +26,7 @@ array-write-words-4 : tie.Need-array-write-words-4
 array-write-words-4 c = search rules
 
 returns : tie.Need-returns
-returns c = state-stored c.before.before.before.before.args.s c.before.before.words-of.ensures c.before.state-with.ensures c.number-of-mode.ensures
+returns c = state_stored c.before.before.before.before.args.s c.before.before.words_of_lem.ensures c.before.state-with.ensures c.number-of-mode.ensures
 
 pub words-of-state-spec : {M : Type 1} → statement M
 words-of-state-spec =

@@ -1,5 +1,5 @@
 -- The part that is lent is as long as the run, so it comes back as the run.
-use Rattle.stores.proofs.Writing.{copied-run}
+use Rattle.stores.proofs.Writing.{copied_run}
 use borrow.Author.Rules.{rules}
 use Rattle.stores.proofs.copy_into.Statement.{statement}
 use Rattle.stores.proofs.copy_into.Tie as tie
@@ -24,7 +24,7 @@ same_length c = search rules
 
 returns : tie.Need-returns
 returns c = let g = c.before.before.before.before.before.before in
-    copied-run _ _ _ g.args.x g.requires c.before.before.copy.ensures
+    copied_run _ _ _ g.args.x g.requires c.before.before.copy.ensures
 
 pub copy-into-spec : {M : Type 1} → statement M
 copy-into-spec =

@@ -3,8 +3,8 @@ use Prim.Native.Nat.{◌-◌}
 use native.Mathlib.Omega.{arith}
 use borrow.Author.Rules.{rules}
 use lib.ListN.{length, length-take}
-use Rattle.stores.proofs.Writing.{Writing, writing-begun, writing-length, writing-within, writing-over, writing-stands, writing-on}
-use Rattle.chain.proofs.Standing.{stands-id, stands-byte, run_inside, run-less}
+use Rattle.stores.proofs.Writing.{Writing, writing_begun, writing_length, writing_within, writing_over, writing_stands, writing_on}
+use Rattle.chain.proofs.Standing.{stands_id, stands_byte, run_inside, run_less}
 use Rattle.stores.proofs.write.Statement.{statement}
 use Rattle.stores.proofs.write.Tie as tie
 
@@ -19,16 +19,16 @@ abbrev turn : tie.After-write-at-arg2 invariant-loop decreases-loop → tie.Afte
 turn c = c.before.before.before
 
 loop-holds : tie.Need-loop-init invariant-loop decreases-loop
-loop-holds c = writing-begun _ _ _ _ _ c.before.before.before.requires
+loop-holds c = writing_begun _ _ _ _ _ c.before.before.before.requires
 
 add_at : tie.Need-overflow-add-at invariant-loop decreases-loop
-add_at c = omega (arith, writing-within c.before.loop.invariant, c.loop-test.true)
+add_at c = omega (arith, writing_within c.before.loop.invariant, c.loop-test.true)
 
 rem-x : tie.Need-nonzero-rem-x invariant-loop decreases-loop
 rem-x c = omega (arith, c.before.loop.invariant.asks.lies.some)
 
 sub-lesser : tie.Need-overflow-sub-lesser invariant-loop decreases-loop
-sub-lesser c = omega (arith, stands-byte (writing-stands c.before.loop.invariant c.loop-test.true))
+sub-lesser c = omega (arith, stands_byte (writing_stands c.before.loop.invariant c.loop-test.true))
 
 sub-lesser-2 : tie.Need-overflow-sub-lesser-2 invariant-loop decreases-loop
 sub-lesser-2 c = omega arith
@@ -37,20 +37,20 @@ lesser-requires : tie.Need-lesser-requires invariant-loop decreases-loop
 lesser-requires c κs = search rules
 
 add-end : tie.Need-overflow-add-end invariant-loop decreases-loop
-add-end c = omega (arith, writing-within c.before.before.loop.invariant, c.lesser.ensures.1)
+add-end c = omega (arith, writing_within c.before.before.loop.invariant, c.lesser.ensures.1)
 
 div-id : tie.Need-nonzero-div-id invariant-loop decreases-loop
 div-id c = omega (arith, c.before.before.loop.invariant.asks.lies.some)
 
 mul-id : tie.Need-overflow-mul-id invariant-loop decreases-loop
-mul-id c = omega (arith, (writing-stands c.before.before.loop.invariant c.before.loop-test.true).place)
+mul-id c = omega (arith, (writing_stands c.before.before.loop.invariant c.before.loop-test.true).place)
 
 shared-slice-read-id : tie.Need-shared-slice-read-id invariant-loop decreases-loop
-shared-slice-read-id c = (writing-stands c.before.before.before.loop.invariant c.before.before.loop-test.true).place
+shared-slice-read-id c = (writing_stands c.before.before.before.loop.invariant c.before.before.loop-test.true).place
 
 cast-id : tie.Need-overflow-cast-id invariant-loop decreases-loop
 cast-id c = let g = c.before.before.before.loop.invariant in
-    omega (arith, stands-id (writing-stands g c.before.before.loop-test.true), writing-length g)
+    omega (arith, stands_id (writing_stands g c.before.before.loop-test.true), writing_length g)
 
 sub-write-at : tie.Need-overflow-sub-write-at invariant-loop decreases-loop
 sub-write-at c = omega arith
@@ -63,21 +63,21 @@ part-write-at-end c = omega (arith, c.before.before.lesser.ensures.1)
 
 write-at-requires : tie.Need-write-at-requires invariant-loop decreases-loop
 write-at-requires c κs = let p = turn c in
-    run_inside (writing-stands p.before.before.loop.inv p.before.loop-test.taken) _ (simp length-take (omega (arith, p.lesser.ensures.0)))
+    run_inside (writing_stands p.before.before.loop.inv p.before.loop-test.taken) _ (simp length-take (omega (arith, p.lesser.ensures.0)))
 
 loop-less : tie.Need-loop-smaller invariant-loop decreases-loop
 loop-less c = let p = turn c.before.before.before in
-    run-less (writing-stands p.before.before.loop.inv p.before.loop-test.taken) _ _ p.lesser.result p.before.loop-test.taken p.lesser.ensures.2
+    run_less (writing_stands p.before.before.loop.inv p.before.loop-test.taken) _ _ p.lesser.result p.before.loop-test.taken p.lesser.ensures.2
 
 loop-again : tie.Need-loop-preserved invariant-loop decreases-loop
 loop-again c = let p = turn c.before.before.before in
-    writing-on p.before.before.loop.inv p.before.loop-test.taken p.lesser.result _ p.lesser.ensures.0 p.lesser.ensures.1 c.before.before.write-at.ensures
+    writing_on p.before.before.loop.inv p.before.loop-test.taken p.lesser.result _ p.lesser.ensures.0 p.lesser.ensures.1 c.before.before.write-at.ensures
 
 same_length : tie.Need-same-length invariant-loop decreases-loop
-same_length c = writing-length c.before.loop.invariant
+same_length c = writing_length c.before.loop.invariant
 
 returns : tie.Need-returns invariant-loop decreases-loop
-returns c = writing-over c.before.loop.invariant c.loop-test.false
+returns c = writing_over c.before.loop.invariant c.loop-test.false
 
 pub write_spec : {M : Type 1} → statement M
 write_spec =

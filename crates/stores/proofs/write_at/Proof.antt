@@ -2,7 +2,7 @@
 use Prim.Native.Nat.{◌+◌}
 use native.Mathlib.Omega.{arith}
 use Rattle.sectors.proofs.Laws.{scaled}
-use Rattle.stores.proofs.Writing.{sector-back}
+use Rattle.stores.proofs.Writing.{sector_back}
 use borrow.Author.Rules.{rules}
 use Rattle.stores.proofs.write_at.Statement.{statement}
 use Rattle.stores.proofs.write_at.Tie as tie
@@ -33,7 +33,7 @@ same_length c = search rules
 
 returns : tie.Need-returns
 returns c = let g = c.before.before.before.before.before.before in
-    sector-back g.args.s g.args.id g.args.x _ _ _ g.requires.0 g.requires.1.1 c.before.before.copy-into.ensures
+    sector_back g.args.s g.args.id g.args.x _ _ _ g.requires.0 g.requires.1.1 c.before.before.copy-into.ensures
 
 pub write-at-spec : {M : Type 1} → statement M
 write-at-spec =

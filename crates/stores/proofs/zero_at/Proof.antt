@@ -2,7 +2,7 @@
 use Prim.Native.Nat.{◌+◌}
 use native.Mathlib.Omega.{arith}
 use Rattle.sectors.proofs.Laws.{scaled}
-use Rattle.stores.proofs.Zeroed.{zeros-back}
+use Rattle.stores.proofs.Zeroed.{zeros_back}
 use borrow.Author.Rules.{rules}
 use Rattle.stores.proofs.zero_at.Statement.{statement}
 use Rattle.stores.proofs.zero_at.Tie as tie
@@ -33,7 +33,7 @@ same_length c = search rules
 
 returns : tie.Need-returns
 returns c = let g = c.before.before.before.before.before in
-    zeros-back g.args.s g.args.id g.args.x _ _ g.requires.0 g.requires.1.1 c.before.before.zero-from.ensures
+    zeros_back g.args.s g.args.id g.args.x _ _ g.requires.0 g.requires.1.1 c.before.before.zero-from.ensures
 
 pub zero-at-spec : {M : Type 1} → statement M
 zero-at-spec =

@@ -1,5 +1,5 @@
 -- The part that is lent is the rest of the sector, and it comes back as zeros.
-use Rattle.stores.proofs.Zeroed.{zeroed-run}
+use Rattle.stores.proofs.Zeroed.{zeroed_run}
 use borrow.Author.Rules.{rules}
 use Rattle.stores.proofs.zero_from.Statement.{statement}
 use Rattle.stores.proofs.zero_from.Tie as tie
@@ -21,7 +21,7 @@ same_length c = search rules
 
 returns : tie.Need-returns
 returns c = let g = c.before.before.before.before.before in
-    zeroed-run _ _ g.args.x g.requires c.before.before.fill.ensures
+    zeroed_run _ _ g.args.x g.requires c.before.before.fill.ensures
 
 pub zero-from-spec : {M : Type 1} → statement M
 zero-from-spec =

@@ -4,8 +4,8 @@ use native.Mathlib.Omega.{arith}
 use borrow.Fn.Kinds.{In}
 use borrow.Fn.PlainCycle.{Measures, is, falls, and}
 use lib.ListN.{length-set}
-use Rattle.texts.proofs.Decimal.{decimal-length-one, decimal-length-more}
-use Rattle.texts.proofs.Texts.{put-digit, put-digits}
+use Rattle.texts.proofs.Decimal.{decimal_length_one, decimal_length_more}
+use Rattle.texts.proofs.Texts.{put_digit, put_digits}
 use Rattle.texts.proofs.put_decimal.Reads as reads
 use Rattle.texts.proofs.put_decimal.Kinds as kinds
 use Rattle.texts.proofs.+put_decimal.Lts-put_decimal as lts
@@ -28,19 +28,19 @@ add-buf : (t : ℕ) → lts.Need-overflow-add-buf (below t, reads.Post) (here t)
 add-buf t c = omega arith
 
 slice-write-buf : (t : ℕ) → lts.Need-slice-write-buf (below t, reads.Post) (here t) reads.Post
-slice-write-buf t c = omega (arith, decimal-length-one _ c.if1.true)
+slice-write-buf t c = omega (arith, decimal_length_one _ c.if1.true)
 
 add-result : (t : ℕ) → lts.Need-overflow-add-result (below t, reads.Post) (here t) reads.Post
-add-result t c = omega (arith, decimal-length-one _ c.if1.true)
+add-result t c = omega (arith, decimal_length_one _ c.if1.true)
 
 same_length : (t : ℕ) → lts.Need-same-length (below t, reads.Post) (here t) reads.Post
 same_length t c = simp length-set
 
 returns : (t : ℕ) → lts.Need-returns (below t, reads.Post) (here t) reads.Post
-returns t c = put-digit _ _ _ c.if1.true c.before.before.requires.1
+returns t c = put_digit _ _ _ c.if1.true c.before.before.requires.1
 
 put-decimal-requires : (t : ℕ) → lts.Need-put-decimal-requires (below t, reads.Post) (here t) reads.Post
-put-decimal-requires t c κs = (omega (arith, c.before.if1.false), omega (arith, decimal-length-more _ c.before.if1.false))
+put-decimal-requires t c κs = (omega (arith, c.before.if1.false), omega (arith, decimal_length_more _ c.before.if1.false))
 
 cast-buf-2 : (t : ℕ) → lts.Need-overflow-cast-buf-2 (below t, reads.Post) (here t) reads.Post
 cast-buf-2 t c = omega arith
@@ -49,16 +49,16 @@ add-buf-2 : (t : ℕ) → lts.Need-overflow-add-buf-2 (below t, reads.Post) (her
 add-buf-2 t c = omega arith
 
 slice-write-buf-2 : (t : ℕ) → lts.Need-slice-write-buf-2 (below t, reads.Post) (here t) reads.Post
-slice-write-buf-2 t c = omega (arith, decimal-length-more _ c.before.before.before.before.if1.false)
+slice-write-buf-2 t c = omega (arith, decimal_length_more _ c.before.before.before.before.if1.false)
 
 add-result-2 : (t : ℕ) → lts.Need-overflow-add-result-2 (below t, reads.Post) (here t) reads.Post
-add-result-2 t c = omega (arith, decimal-length-more _ c.before.before.before.before.if1.false)
+add-result-2 t c = omega (arith, decimal_length_more _ c.before.before.before.before.if1.false)
 
 same-length-2 : (t : ℕ) → lts.Need-same-length-2 (below t, reads.Post) (here t) reads.Post
 same-length-2 t c = simp length-set c.before.before.put-decimal.ensures.kept
 
 returns-2 : (t : ℕ) → lts.Need-returns-2 (below t, reads.Post) (here t) reads.Post
-returns-2 t c = put-digits _ c.before.before.before.before.if1.false c.before.before.before.before.before.before.requires.1 c.before.before.put-decimal.ensures
+returns-2 t c = put_digits _ c.before.before.before.before.if1.false c.before.before.before.before.before.before.requires.1 c.before.before.put-decimal.ensures
 
 pub +put-decimal-spec : {M : Type 1} → statement M
 +put-decimal-spec = close μ λ t. lts.spec (below t, reads.Post) (here t) reads.Post

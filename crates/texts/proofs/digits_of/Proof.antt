@@ -2,15 +2,15 @@
 use Prim.Native.Nat.{◌≤◌}
 use native.Mathlib.Omega.{arith}
 use lib.ListN.{length}
-use Rattle.texts.specs.Text.{decimalOf}
-use Rattle.texts.proofs.Decimal.{decimal-of-usize}
+use Rattle.texts.specs.Text.{decimal_of}
+use Rattle.texts.proofs.Decimal.{decimal_of_usize}
 use Rattle.texts.proofs.Texts.{put_written}
 use borrow.Author.Rules.{rules}
 use Rattle.texts.proofs.digits_of.Statement.{statement}
 use Rattle.texts.proofs.digits_of.Tie as tie
 
-few : (c : tie.Start) → length (decimalOf c.args.n) ≤ 20
-few c = decimal-of-usize _ (omega arith)
+few : (c : tie.Start) → length (decimal_of c.args.n) ≤ 20
+few c = decimal_of_usize _ (omega arith)
 
 slice-aggregate-put-decimal : tie.Need-slice-aggregate-put-decimal
 slice-aggregate-put-decimal c = search rules

@@ -2,7 +2,7 @@
 use Prim.Native.Nat.{◌-◌}
 use native.Mathlib.Omega.{arith}
 use lib.ListN.{length}
-use Rattle.texts.proofs.Puts.{Putting, putting-begun, putting-on, putting-over}
+use Rattle.texts.proofs.Puts.{Putting, putting_begun, putting_on, putting_over}
 use Rattle.texts.proofs.put_bytes.Statement.{statement}
 use Rattle.texts.proofs.put_bytes.Tie as tie
 
@@ -13,7 +13,7 @@ abbrev decreases-loop : tie.decreases-loop
 decreases-loop buf₀ at word i₀ buf i = length word - i
 
 loop-holds : tie.Need-loop-init invariant-loop decreases-loop
-loop-holds c = putting-begun _ _ _
+loop-holds c = putting_begun _ _ _
 
 shared-slice-read-buf : tie.Need-shared-slice-read-buf invariant-loop decreases-loop
 shared-slice-read-buf c = omega arith
@@ -31,7 +31,7 @@ loop-less : tie.Need-loop-smaller invariant-loop decreases-loop
 loop-less c = omega arith
 
 loop-again : tie.Need-loop-preserved invariant-loop decreases-loop
-loop-again c = putting-on c.before.before.loop.invariant c.before.loop-test.true c.before.before.before.requires
+loop-again c = putting_on c.before.before.loop.invariant c.before.loop-test.true c.before.before.before.requires
 
 add-result : tie.Need-overflow-add-result invariant-loop decreases-loop
 add-result c = omega arith
@@ -40,7 +40,7 @@ same_length : tie.Need-same-length invariant-loop decreases-loop
 same_length c = c.before.loop.invariant.done.kept
 
 returns : tie.Need-returns invariant-loop decreases-loop
-returns c = putting-over c.before.loop.invariant c.loop-test.false
+returns c = putting_over c.before.loop.invariant c.loop-test.false
 
 pub put-bytes-spec : {M : Type 1} → statement M
 put-bytes-spec =

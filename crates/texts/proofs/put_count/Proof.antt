@@ -3,9 +3,9 @@ use Prim.Native.Nat.{◌≤◌}
 use native.Mathlib.Omega.{arith}
 use borrow.Author.Rules.{rules}
 use lib.ListN.{length}
-use Rattle.texts.specs.Text.{decimalOf}
-use Rattle.texts.proofs.Decimal.{decimal-of-usize}
-use Rattle.texts.proofs.Texts.{put_one, put-many}
+use Rattle.texts.specs.Text.{decimal_of}
+use Rattle.texts.proofs.Decimal.{decimal_of_usize}
+use Rattle.texts.proofs.Texts.{put_one, put_many}
 use Rattle.texts.proofs.put_count.Statement.{statement}
 use Rattle.texts.proofs.put_count.Tie as tie
 
@@ -19,8 +19,8 @@ counted c = c.before.before.before.before.before
 abbrev entry : tie.After-put-decimal → tie.Start
 entry c = c.before.before.before.before.before
 
-few : (c : tie.Start) → length (decimalOf c.args.n) ≤ 20
-few c = decimal-of-usize _ (omega arith)
+few : (c : tie.Start) → length (decimal_of c.args.n) ≤ 20
+few c = decimal_of_usize _ (omega arith)
 
 put-bytes-requires : tie.Need-put-bytes-requires
 put-bytes-requires c κs = search rules
@@ -29,7 +29,7 @@ same_length : tie.Need-same-length
 same_length c = search rules
 
 returns : tie.Need-returns
-returns c = put_one _ c.before.before.before.before.if1.true c.before.before.put-bytes.ensures
+returns c = put_one _ c.before.before.before.before.if1.true c.before.before.put_bytes.ensures
 
 put-decimal-requires : tie.Need-put-decimal-requires
 put-decimal-requires c κs = omega (arith, few c.before.before.before.before)
@@ -53,7 +53,7 @@ same-length-2 c = search rules
 returns-2 : tie.Need-returns-2
 returns-2 c =
     let d = counted (spaced c) in
-    put-many _ d.before.before.if1.left (omega arith) (entry d).pre d.put-decimal.ensures (spaced c).put-bytes2.ensures c.before.before.put-bytes3.ensures
+    put_many _ d.before.before.if1.left (omega arith) (entry d).pre d.put-decimal.ensures (spaced c).put-bytes2.ensures c.before.before.put-bytes3.ensures
 
 pub put-count-spec : {M : Type 1} → statement M
 put-count-spec =

@@ -3,9 +3,9 @@ use Prim.Native.Nat.{◌≤◌}
 use native.Mathlib.Omega.{arith}
 use borrow.Author.Rules.{rules}
 use lib.ListN.{length}
-use Rattle.texts.specs.Text.{decimalOf}
-use Rattle.texts.proofs.Decimal.{decimal-of-u32}
-use Rattle.texts.proofs.Texts.{put_same, put-span}
+use Rattle.texts.specs.Text.{decimal_of}
+use Rattle.texts.proofs.Decimal.{decimal_of_u32}
+use Rattle.texts.proofs.Texts.{put_same, put_span}
 use Rattle.texts.proofs.put_range.Statement.{statement}
 use Rattle.texts.proofs.put_range.Tie as tie
 
@@ -19,8 +19,8 @@ begun c = c.before.before.before.before.before.before
 abbrev entry : tie.After-put-decimal → tie.Start
 entry c = c.before.before.before
 
-few : (c : tie.Start) → (length (decimalOf c.args.first) ≤ 10) × (length (decimalOf c.args.last) ≤ 10)
-few c = (decimal-of-u32 _ (omega arith), decimal-of-u32 _ (omega arith))
+few : (c : tie.Start) → (length (decimal_of c.args.first) ≤ 10) × (length (decimal_of c.args.last) ≤ 10)
+few c = (decimal_of_u32 _ (omega arith), decimal_of_u32 _ (omega arith))
 
 put-decimal-requires : tie.Need-put-decimal-requires
 put-decimal-requires c κs = omega (arith, few c.before.before)
@@ -42,7 +42,7 @@ put-bytes-requires c κs =
 put-decimal-requires-2 : tie.Need-put-decimal-requires-2
 put-decimal-requires-2 c κs =
     let s = c.before.before.before in
-    omega (arith, few (entry (begun s)), (begun s).put-decimal.ensures, s.put-bytes.ensures)
+    omega (arith, few (entry (begun s)), (begun s).put-decimal.ensures, s.put_bytes.ensures)
 
 same-length-2 : tie.Need-same-length-2
 same-length-2 c = search rules
@@ -50,7 +50,7 @@ same-length-2 c = search rules
 returns-2 : tie.Need-returns-2
 returns-2 c =
     let s = signed c in
-    put-span _ _ s.before.before.before.if1.left (omega arith) (omega arith) (entry (begun s)).requires (begun s).put-decimal.ensures s.put-bytes.ensures c.before.before.put-decimal2.ensures
+    put_span _ _ s.before.before.before.if1.left (omega arith) (omega arith) (entry (begun s)).requires (begun s).put-decimal.ensures s.put_bytes.ensures c.before.before.put-decimal2.ensures
 
 pub put-range-spec : {M : Type 1} → statement M
 put-range-spec =

@@ -1,6 +1,6 @@
 -- `texts::put_sector` meets its contract: each arm puts the text of its item, and 26 bytes hold the longest. Assumes nothing.
 use Rattle.texts.specs.Text.{text_of}
-use Rattle.texts.proofs.Texts.{put-known}
+use Rattle.texts.proofs.Texts.{put_known}
 use borrow.Author.Rules.{rules}
 use Rattle.texts.proofs.put_sector.Statement.{statement}
 use Rattle.texts.proofs.put_sector.Tie as tie
@@ -19,7 +19,7 @@ same_length c = search rules
 
 returns : tie.Need-returns
 unfolding text_of
-returns c = let put = c.before.before in put-known put.before.before.before.before.s.given.1 put.put_count.ensures
+returns c = let put = c.before.before in put_known put.before.before.before.before.s.given.1 put.put_count.ensures
 
 enum_told : tie.Need-enum-told
 enum_told c = search rules
@@ -35,7 +35,7 @@ same-length-2 c = search rules
 
 returns-2 : tie.Need-returns-2
 unfolding text_of
-returns-2 c = put-known c.before.before.before.before.before.enum_told.given.1 c.before.before.put-bytes.ensures
+returns-2 c = put_known c.before.before.before.before.before.enum_told.given.1 c.before.before.put_bytes.ensures
 
 enum-known-s-2 : tie.Need-enum-known-s-2
 enum-known-s-2 c = search rules
@@ -51,7 +51,7 @@ same-length-3 c = search rules
 
 returns-3 : tie.Need-returns-3
 unfolding text_of
-returns-3 c = let put = c.before.before in put-known put.before.before.before.before.s2.given.1 put.put-count2.ensures
+returns-3 c = let put = c.before.before in put_known put.before.before.before.before.s2.given.1 put.put-count2.ensures
 
 enum-known-s-3 : tie.Need-enum-known-s-3
 enum-known-s-3 c = search rules
@@ -67,7 +67,7 @@ same-length-4 c = search rules
 
 returns-4 : tie.Need-returns-4
 unfolding text_of
-returns-4 c = let put = c.before.before in put-known put.before.before.before.before.s3.given.1 put.put-count3.ensures
+returns-4 c = let put = c.before.before in put_known put.before.before.before.before.s3.given.1 put.put-count3.ensures
 
 enum-known-s-4 : tie.Need-enum-known-s-4
 enum-known-s-4 c = search rules
@@ -80,7 +80,7 @@ same-length-5 c = search rules
 
 returns-5 : tie.Need-returns-5
 unfolding text_of
-returns-5 c = put-known c.before.before.before.before.before.s4.given.1 c.before.before.put-range.ensures
+returns-5 c = put_known c.before.before.before.before.before.s4.given.1 c.before.before.put-range.ensures
 
 pub put-sector-spec : {M : Type 1} → statement M
 put-sector-spec =

@@ -4,7 +4,7 @@ use mathlib.Core.Path.{◌≡◌}
 use mathlib.Core.Logic.{⊎_elim}
 use native.Mathlib.Omega.{arith}
 use lib.ListN.{length}
-use Rattle.words.proofs.Laws.{Compared, compared-none, compared_same, compared-not, compared-all, compared-lengths}
+use Rattle.words.proofs.Laws.{Compared, compared_none, compared_same, compared_not, compared_all, compared_lengths}
 use borrow.Author.Rules.{rules}
 use Rattle.agree.proofs.alike.same_numbers.Statement.{statement}
 use Rattle.agree.proofs.alike.same_numbers.Tie as tie
@@ -16,10 +16,10 @@ abbrev decreases-loop : tie.decreases-loop
 decreases-loop a b equal₀ i₀ equal i = length a - i
 
 returns : tie.Need-returns invariant-loop decreases-loop
-returns c = compared-lengths _ _ c.if1.true
+returns c = compared_lengths _ _ c.if1.true
 
 loop-holds : tie.Need-loop-init invariant-loop decreases-loop
-loop-holds c = (omega arith, compared-none _ _)
+loop-holds c = (omega arith, compared_none _ _)
 
 mul-if2 : tie.Need-overflow-mul-if2 invariant-loop decreases-loop
 mul-if2 c = search rules
@@ -42,12 +42,12 @@ loop-less c = omega arith
 loop-again : tie.Need-loop-preserved invariant-loop decreases-loop
 loop-again c =
     let t = c.before.before.before.before.loop.invariant.1 in
-    (omega arith, ⊎_elim (λ w. compared-not _ _ _ _ w.0.taken w.1) (λ w. compared_same _ _ _ _ _ t w.0.left w.1) c.if2.branch)
+    (omega arith, ⊎_elim (λ w. compared_not _ _ _ _ w.0.taken w.1) (λ w. compared_same _ _ _ _ _ t w.0.left w.1) c.if2.branch)
 
 returns-2 : tie.Need-returns-2 invariant-loop decreases-loop
 returns-2 c =
     let e : length c.before.before.before.args.a.now ≡ c.before.loop.i = omega arith in
-    compared-all _ _ _ c.before.before.if1.false (rw e c.before.loop.invariant.1)
+    compared_all _ _ _ c.before.before.if1.false (rw e c.before.loop.invariant.1)
 
 pub same-numbers-spec : {M : Type 1} → statement M
 same-numbers-spec =

@@ -4,9 +4,9 @@ use mathlib.Core.Path.{◌≡◌, refl}
 use native.Mathlib.Omega.{arith}
 use lib.ListN.{length, get_or}
 use Rattle.lists.specs.Lists.{every}
-use Rattle.points.proofs.Testing.{flag-more}
+use Rattle.points.proofs.Testing.{flag_more}
 use lib.Dec.{eqb}
-use Rattle.agree.specs.Parts.{allZero}
+use Rattle.agree.specs.Parts.{all_zero}
 use Rattle.agree.proofs.alike.zero_bytes.Statement.{statement}
 use Rattle.agree.proofs.alike.zero_bytes.Tie as tie
 
@@ -30,10 +30,10 @@ loop-less : tie.Need-loop-smaller invariant-loop decreases-loop
 loop-less c = omega arith
 
 loop-again : tie.Need-loop-preserved invariant-loop decreases-loop
-loop-again c = (omega arith, flag-more _ _ _ _ c.before.before.loop.invariant.1 refl)
+loop-again c = (omega arith, flag_more _ _ _ _ c.before.before.loop.invariant.1 refl)
 
 returns : tie.Need-returns invariant-loop decreases-loop
-unfolding allZero
+unfolding all_zero
 returns c =
     let l = c.before.loop in
     let all : l.i ≡ length c.before.before.args.xs.now = omega arith in

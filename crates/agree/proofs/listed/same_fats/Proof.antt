@@ -3,7 +3,7 @@ use mathlib.Core.Path.{sym, ◌∙◌}
 use borrow.Author.Tests.{not-true, not-false}
 use lib.Seq.{length-take-le}
 use Rattle.fat.proofs.Listing.{below_more}
-use Rattle.agree.proofs.Listing.{relent, fats-wrong, fats-followed, fats-low, fats-told}
+use Rattle.agree.proofs.Listing.{relent, fats_wrong, fats_followed, fats_low, fats_told}
 use borrow.Author.Rules.{rules}
 use Rattle.agree.proofs.listed.same_fats.Statement.{statement}
 use Rattle.agree.proofs.listed.same_fats.Tie as tie
@@ -25,7 +25,7 @@ same_length : tie.Need-same-length
 same_length c = search rules
 
 returns : tie.Need-returns
-returns c = fats-wrong _ _ _ _ _ _ _ _ c.before.before.before.are-places.ensures (not-true _ c.if1.true)
+returns c = fats_wrong _ _ _ _ _ _ _ _ c.before.before.before.are-places.ensures (not-true _ c.if1.true)
 
 rest-free-requires : tie.Need-rest-free-requires
 rest-free-requires c κs = (entry c.before.before.before).requires.places
@@ -34,14 +34,14 @@ same-length-2 : tie.Need-same-length-2
 same-length-2 c = search rules
 
 returns-2 : tie.Need-returns-2
-returns-2 c = fats-followed _ _ _ _ _ _ _ (sym c.before.rest-free.ensures ∙ not-true _ c.if2.true)
+returns-2 c = fats_followed _ _ _ _ _ _ _ (sym c.before.rest_free_lem.ensures ∙ not-true _ c.if2.true)
 
 different-requires : tie.Need-different-requires
 different-requires c κs =
     let e = c.before.before.before in
     let i = e.before.before.before in
     let g = entry i in
-    (below_more _ _ _ (relent i.are-places.new.1.1.1.1.1.1.0 g.args.scratch.now _ _ i.are-places.auto.1.1.1.1.1.1.0 g.pre.within g.pre.below) (fats-low _ _ _ _ _ _ _ _ i.are-places.ensures (not-false _ e.if1.false)), g.pre.few)
+    (below_more _ _ _ (relent i.are-places.new.1.1.1.1.1.1.0 g.args.scratch.now _ _ i.are-places.auto.1.1.1.1.1.1.0 g.pre.within g.pre.below) (fats_low _ _ _ _ _ _ _ _ i.are-places.ensures (not-false _ e.if1.false)), g.pre.few)
 
 same-length-3 : tie.Need-same-length-3
 same-length-3 c = search rules
@@ -52,7 +52,7 @@ returns-3 c =
     let f = d.before.before in
     let e = f.before.before in
     let i = e.before.before.before in
-    fats-told _ _ _ _ _ _ _ _ i.are-places.ensures _ (not-false _ e.if1.false) (sym f.before.rest-free.ensures ∙ not-false _ f.if2.false) d.different.ensures
+    fats_told _ _ _ _ _ _ _ _ i.are-places.ensures _ (not-false _ e.if1.false) (sym f.before.rest_free_lem.ensures ∙ not-false _ f.if2.false) d.different.ensures
 
 pub same-fats-spec : {M : Type 1} → statement M
 same-fats-spec =

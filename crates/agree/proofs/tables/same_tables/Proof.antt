@@ -6,9 +6,9 @@ use native.Mathlib.Omega.{arith}
 use borrow.Author.Tests.{not-true, not-false}
 use lib.ListN.{length}
 use lib.Seq.{length-take-le}
-use Rattle.agree.specs.Parts.{listsSame}
+use Rattle.agree.specs.Parts.{lists_same}
 use Rattle.agree.proofs.Listing.{relent}
-use Rattle.agree.proofs.Accepting.{tables-lists, tables-tail, tables-fat, tables-told, tables-cover, tables-fat-lent}
+use Rattle.agree.proofs.Accepting.{tables_lists, tables_tail, tables_fat, tables_told, tables_cover, tables_fat_lent}
 use borrow.Author.Rules.{rules}
 use Rattle.agree.proofs.tables.same_tables.Statement.{statement}
 use Rattle.agree.proofs.tables.same_tables.Tie as tie
@@ -21,7 +21,7 @@ room : (l : tie.After-same-lists) → length (entry l).args.fat.now ≤ length l
 room l = omega (arith, l.same_lists.auto.1.1.1.1.1.1.0, (entry l).requires.below)
 
 right : (c : tie.Else1)
-    → listsSame (entry c.before.before.before).args.s (entry c.before.before.before).args.image.now (entry c.before.before.before).args.h (length (entry c.before.before.before).args.fat.now) (entry c.before.before.before).args.fats.now (entry c.before.before.before).args.difats.now ≡ true
+    → lists_same (entry c.before.before.before).args.s (entry c.before.before.before).args.image.now (entry c.before.before.before).args.h (length (entry c.before.before.before).args.fat.now) (entry c.before.before.before).args.fats.now (entry c.before.before.before).args.difats.now ≡ true
 right c = sym c.before.before.before.same_lists.ensures ∙ not-false _ c.if1.false
 
 same-lists-requires : tie.Need-same-lists-requires
@@ -31,16 +31,16 @@ same_length : tie.Need-same-length
 same_length c = search rules
 
 returns : tie.Need-returns
-returns c = tables-lists _ _ _ _ _ _ _ _ _ (sym c.before.before.before.same_lists.ensures ∙ not-true _ c.if1.true)
+returns c = tables_lists _ _ _ _ _ _ _ _ _ (sym c.before.before.before.same_lists.ensures ∙ not-true _ c.if1.true)
 
 tail-free-requires : tie.Need-tail-free-requires
-tail-free-requires c κs = tables-cover _ _ _ _ _ _ _ _ _ (entry c.before.before.before).requires (right c)
+tail-free-requires c κs = tables_cover _ _ _ _ _ _ _ _ _ (entry c.before.before.before).requires (right c)
 
 same-length-2 : tie.Need-same-length-2
 same-length-2 c = search rules
 
 returns-2 : tie.Need-returns-2
-returns-2 c = tables-tail _ _ _ _ _ _ _ _ _ (sym c.before.tail-free.ensures ∙ not-true _ c.if2.true)
+returns-2 c = tables_tail _ _ _ _ _ _ _ _ _ (sym c.before.tail_free_lem.ensures ∙ not-true _ c.if2.true)
 
 slice-relend-prefix-same-fat : tie.Need-slice-relend-prefix-same-fat
 slice-relend-prefix-same-fat c = search rules
@@ -52,7 +52,7 @@ same-fat-requires : tie.Need-same-fat-requires
 same-fat-requires c κs =
     let e = c.before.before.before in
     let l = e.before.before.before in
-    tables-fat-lent _ _ _ _ _ _ _ _ _ _ (entry l).requires (right e) (length-take-le _ _ (room l))
+    tables_fat_lent _ _ _ _ _ _ _ _ _ _ (entry l).requires (right e) (length-take-le _ _ (room l))
 
 same-length-3 : tie.Need-same-length-3
 same-length-3 c = search rules
@@ -61,7 +61,7 @@ returns-3 : tie.Need-returns-3
 returns-3 c =
     let f = c.before.before.before in
     let g = entry f.before.before.before.before.before.before.before in
-    tables-fat _ _ _ _ _ _ _ _ _ (omega (arith, g.pre.counted.few)) refl (sym f.same-fat.ensures ∙ not-true _ c.if3.true)
+    tables_fat _ _ _ _ _ _ _ _ _ (omega (arith, g.pre.counted.few)) refl (sym f.same_fat.ensures ∙ not-true _ c.if3.true)
 
 same-points-requires : tie.Need-same-points-requires
 same-points-requires c κs =
@@ -69,7 +69,7 @@ same-points-requires c κs =
     let g = entry l in
     record {
       few = omega (arith, g.pre.counted.few);
-      below = relent c.before.before.before.before.same-fat.new.1.1.1.1.1.1.0 l.same_lists.new.1.1.1.1.1.1.0 _ _ c.before.before.before.before.same-fat.auto.1.1.1.1.1.1.0 (room l) (room l);
+      below = relent c.before.before.before.before.same_fat.new.1.1.1.1.1.1.0 l.same_lists.new.1.1.1.1.1.1.0 _ _ c.before.before.before.before.same_fat.auto.1.1.1.1.1.1.0 (room l) (room l);
       marked = g.pre.marked;
     }
 
@@ -84,8 +84,8 @@ returns-4 c =
     let tail = f.before.before in
     let lists = tail.before.before in
     let l = lists.before.before.before in
-    tables-told _ _ _ _ _ _ _ _ _ (omega (arith, (entry l).requires.counted.few)) refl _ (right lists) (sym tail.before.tail-free.ensures ∙ not-false _ tail.if2.false)
-    (sym f.same-fat.ensures ∙ not-false _ e.if3.false) p.same_points.ensures
+    tables_told _ _ _ _ _ _ _ _ _ (omega (arith, (entry l).requires.counted.few)) refl _ (right lists) (sym tail.before.tail_free_lem.ensures ∙ not-false _ tail.if2.false)
+    (sym f.same_fat.ensures ∙ not-false _ e.if3.false) p.same_points.ensures
 
 pub same-tables-spec : {M : Type 1} → statement M
 same-tables-spec =

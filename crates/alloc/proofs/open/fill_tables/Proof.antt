@@ -4,11 +4,11 @@ use mathlib.Core.Path.{◌≡◌, sym, ◌∙◌, ap}
 use native.Mathlib.Omega.{arith}
 use lib.ListN.{length, take, replicate}
 use lib.Seq.{length-take-le}
-use Rattle.sectors.specs.Sectors.{perSector}
-use Rattle.fat.specs.Lists.{fatCount, difatCount, ceil}
+use Rattle.sectors.specs.Sectors.{per_sector}
+use Rattle.fat.specs.Lists.{fat_count, difat_count, ceil}
 use Rattle.fat.specs.Loaded.{Counted}
-use Rattle.fat.proofs.Listing.{ceil-few, fats-few, difats-few}
-use Rattle.alloc.proofs.Filled.{zero-front, zeroed-counted, counted_same, filled}
+use Rattle.fat.proofs.Listing.{ceil_few, fats_few, difats_few}
+use Rattle.alloc.proofs.Filled.{zero_front, zeroed_counted, counted_same, filled}
 use borrow.Author.Rules.{rules}
 use Rattle.alloc.proofs.open.fill_tables.Statement.{statement}
 use Rattle.alloc.proofs.open.fill_tables.Tie as tie
@@ -28,23 +28,23 @@ abbrev loaded : tie.After-slice-known10 → tie.After-load-tables
 loaded c = c.before.before.before.before.before.before.before.before.before.before
 
 -- the counts that the code computes are those that n sectors ask for
-count-fats : (c : tie.After-ceil2) → c.before.before.ceil.result ≡ fatCount (entry c).args.s (entry c).args.n
-unfolding fatCount
+count-fats : (c : tie.After-ceil2) → c.before.before.ceil.result ≡ fat_count (entry c).args.s (entry c).args.n
+unfolding fat_count
 count-fats c = c.before.before.ceil.ensures
 
-count-difats : (c : tie.After-ceil2) → c.ceil2.result ≡ difatCount (entry c).args.s c.before.before.ceil.result
-unfolding difatCount
-count-difats c = c.ceil2.ensures ∙ ap (λ (k : ℕ). ceil k (perSector (entry c).args.s - 1)) c.before.past-header.ensures
+count-difats : (c : tie.After-ceil2) → c.ceil2.result ≡ difat_count (entry c).args.s c.before.before.ceil.result
+unfolding difat_count
+count-difats c = c.ceil2.ensures ∙ ap (λ (k : ℕ). ceil k (per_sector (entry c).args.s - 1)) c.before.past-header.ensures
 
 counted : (c : tie.After-ceil2) → Counted (entry c).args.s (entry c).args.n (length (entry c).args.image.now) c.before.before.ceil.result c.ceil2.result
-counted c = zeroed-counted _ _ _ _ _ _ _ _ _ _ (entry c).requires (count-fats c) (count-difats c)
+counted c = zeroed_counted _ _ _ _ _ _ _ _ _ _ (entry c).requires (count-fats c) (count-difats c)
 
 -- so many sectors' ids fit into the lent lists
-fats-fit : (c : tie.After-ceil2) → c.before.before.ceil.result ≤ length (entry c).args.fats.now
-fats-fit c = omega (arith, fats-few _ _ _ _ _ (counted c), (entry c).requires.fats-long)
+fats_fit : (c : tie.After-ceil2) → c.before.before.ceil.result ≤ length (entry c).args.fats.now
+fats_fit c = omega (arith, fats_few _ _ _ _ _ (counted c), (entry c).requires.fats_long)
 
-difats-fit : (c : tie.After-ceil2) → c.ceil2.result ≤ length (entry c).args.difats.now
-difats-fit c = omega (arith, difats-few _ _ _ _ _ (counted c), (entry c).requires.difats-long)
+difats_fit : (c : tie.After-ceil2) → c.ceil2.result ≤ length (entry c).args.difats.now
+difats_fit c = omega (arith, difats_few _ _ _ _ _ (counted c), (entry c).requires.difats_long)
 
 ceil-requires : tie.Need-ceil-requires
 ceil-requires c κs = search rules
@@ -58,39 +58,39 @@ sub-ceil c = search rules
 ceil-requires-2 : tie.Need-ceil-requires-2
 ceil-requires-2 c κs =
     let g = start c in
-    (omega (arith, g.pre.holds.two), omega (arith, c.past-header.ensures, c.before.ceil.ensures, ceil-few g.args.n (perSector g.args.s) (omega (arith, g.pre.holds.two)), g.pre.short, g.pre.few))
+    (omega (arith, g.pre.holds.two), omega (arith, c.past-header.ensures, c.before.ceil.ensures, ceil_few g.args.n (per_sector g.args.s) (omega (arith, g.pre.holds.two)), g.pre.short, g.pre.few))
 
 slice-relend-prefix-load-tables : tie.Need-slice-relend-prefix-load-tables
 slice-relend-prefix-load-tables c = search rules
 
 slice-aggregate-load-tables : tie.Need-slice-aggregate-load-tables
-slice-aggregate-load-tables c = sym (length-take-le _ _ (entry c.before).requires.fat-long)
+slice-aggregate-load-tables c = sym (length-take-le _ _ (entry c.before).requires.fat_long)
 
 slice-relend-prefix-load-tables-2 : tie.Need-slice-relend-prefix-load-tables-2
-slice-relend-prefix-load-tables-2 c = fats-fit c.before
+slice-relend-prefix-load-tables-2 c = fats_fit c.before
 
 slice-aggregate-load-tables-2 : tie.Need-slice-aggregate-load-tables-2
-slice-aggregate-load-tables-2 c = sym (length-take-le _ _ (fats-fit c.before.before))
+slice-aggregate-load-tables-2 c = sym (length-take-le _ _ (fats_fit c.before.before))
 
 slice-relend-prefix-load-tables-3 : tie.Need-slice-relend-prefix-load-tables-3
-slice-relend-prefix-load-tables-3 c = difats-fit c.before.before
+slice-relend-prefix-load-tables-3 c = difats_fit c.before.before
 
 slice-aggregate-load-tables-3 : tie.Need-slice-aggregate-load-tables-3
-slice-aggregate-load-tables-3 c = sym (length-take-le _ _ (difats-fit c.before.before.before))
+slice-aggregate-load-tables-3 c = sym (length-take-le _ _ (difats_fit c.before.before.before))
 
 slice-relend-prefix-load-tables-4 : tie.Need-slice-relend-prefix-load-tables-4
 slice-relend-prefix-load-tables-4 c = search rules
 
 slice-aggregate-load-tables-4 : tie.Need-slice-aggregate-load-tables-4
-slice-aggregate-load-tables-4 c = sym (length-take-le _ _ (entry (counts c)).requires.marks-long)
+slice-aggregate-load-tables-4 c = sym (length-take-le _ _ (entry (counts c)).requires.marks_long)
 
 load-tables-requires : tie.Need-load-tables-requires
 load-tables-requires c κs =
     let s = counts c in
     let g = entry s in
-    let n : length (take g.args.n g.args.fat.now) ≡ g.args.n = length-take-le _ _ g.pre.fat-long in (
-      counted_same _ _ _ _ _ _ _ _ n (length-take-le _ _ (fats-fit s)) (length-take-le _ _ (difats-fit s)) (counted s),
-      (omega (arith, n, g.pre.scratch-long), zero-front _ _ g.pre.marks-zero g.pre.marks-long ∙ ap (λ (m : ℕ). replicate m 0) (sym n)),
+    let n : length (take g.args.n g.args.fat.now) ≡ g.args.n = length-take-le _ _ g.pre.fat_long in (
+      counted_same _ _ _ _ _ _ _ _ n (length-take-le _ _ (fats_fit s)) (length-take-le _ _ (difats_fit s)) (counted s),
+      (omega (arith, n, g.pre.scratch_long), zero_front _ _ g.pre.marks_zero g.pre.marks_long ∙ ap (λ (m : ℕ). replicate m 0) (sym n)),
     )
 
 same_length : tie.Need-same-length
@@ -113,7 +113,7 @@ returns c =
     let l = loaded c in
     let s = counts l.before in
     let g = entry s in
-    filled _ _ _ _ _ _ _ _ _ _ _ _ _ _ _ _ _ _ _ g.pre (length-take-le _ _ g.pre.fat-long) (count-fats s) (count-difats s) l.load-tables.ensures
+    filled _ _ _ _ _ _ _ _ _ _ _ _ _ _ _ _ _ _ _ g.pre (length-take-le _ _ g.pre.fat_long) (count-fats s) (count-difats s) l.load-tables.ensures
 
 pub fill-tables-spec : {M : Type 1} → statement M
 fill-tables-spec =

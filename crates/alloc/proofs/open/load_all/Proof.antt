@@ -1,6 +1,6 @@
 -- The tables are made zero and loaded; where that is refused they are made zero again, and only the number counts.
 use mathlib.Core.Path.{◌∙◌}
-use Rattle.alloc.proofs.Filled.{zeros-as, lent-zeroed, filled-loaded, refused-loaded}
+use Rattle.alloc.proofs.Filled.{zeros_as, lent_zeroed, filled_loaded, refused_loaded}
 use borrow.Author.Rules.{rules}
 use Rattle.alloc.proofs.open.load_all.Statement.{statement}
 use Rattle.alloc.proofs.open.load_all.Tie as tie
@@ -29,7 +29,7 @@ clear-requires c κs = search rules
 load-zeroed-requires : tie.Need-load-zeroed-requires
 load-zeroed-requires c κs =
     let k = (cleared c).clear in
-    lent-zeroed _ _ _ _ _ _ _ _ _ _ _ _ _ (entry (cleared c)).requires k.ensures.0 k.ensures.1 k.ensures.2 k.kept.1.1.1.0 k.ensures.4
+    lent_zeroed _ _ _ _ _ _ _ _ _ _ _ _ _ (entry (cleared c)).requires k.ensures.0 k.ensures.1 k.ensures.2 k.kept.1.1.1.0 k.ensures.4
 
 clear-requires-2 : tie.Need-clear-requires-2
 clear-requires-2 c κs = search rules
@@ -56,9 +56,9 @@ returns c =
     let l = done.load-zeroed in
     let m = (cleared done.before).clear in
     let same = l.kept.1.1.1.1.1 in
-    refused-loaded _ _ _ _ _ _ _ _ _ _ _ _ _ _ _ _ _ _ _ _ _ _ _ _ _ _ (refused c).if1.true l.ensures
-    (zeros-as _ _ _ k.ensures.0 (same.0 ∙ m.kept.0)) (zeros-as _ _ _ k.ensures.1 (same.1.0 ∙ m.kept.1.0)) (zeros-as _ _ _ k.ensures.2 (same.1.1.0 ∙ m.kept.1.1.0))
-    (zeros-as _ _ _ k.ensures.3 (same.1.1.1.0 ∙ m.kept.1.1.1.0)) (zeros-as _ _ _ k.ensures.4 (same.1.1.1.1.0 ∙ m.kept.1.1.1.1.0))
+    refused_loaded _ _ _ _ _ _ _ _ _ _ _ _ _ _ _ _ _ _ _ _ _ _ _ _ _ _ (refused c).if1.true l.ensures
+    (zeros_as _ _ _ k.ensures.0 (same.0 ∙ m.kept.0)) (zeros_as _ _ _ k.ensures.1 (same.1.0 ∙ m.kept.1.0)) (zeros_as _ _ _ k.ensures.2 (same.1.1.0 ∙ m.kept.1.1.0))
+    (zeros_as _ _ _ k.ensures.3 (same.1.1.1.0 ∙ m.kept.1.1.1.0)) (zeros_as _ _ _ k.ensures.4 (same.1.1.1.1.0 ∙ m.kept.1.1.1.1.0))
 
 same-length-6 : tie.Need-same-length-6
 same-length-6 c = search rules
@@ -79,7 +79,7 @@ returns-2 : tie.Need-returns-2
 returns-2 c =
     let l = (loaded c.before).load-zeroed in
     let k = (cleared (loaded c.before).before).clear in
-    filled-loaded _ _ _ _ _ _ _ _ _ _ _ _ _ _ _ _ _ _ _ _ _ k.kept.0 k.kept.1.0 k.kept.1.1.0 k.kept.1.1.1.0 k.kept.1.1.1.1.0 c.if1.false l.ensures
+    filled_loaded _ _ _ _ _ _ _ _ _ _ _ _ _ _ _ _ _ _ _ _ _ k.kept.0 k.kept.1.0 k.kept.1.1.0 k.kept.1.1.1.0 k.kept.1.1.1.1.0 c.if1.false l.ensures
 
 pub load-all-spec : {M : Type 1} → statement M
 load-all-spec =

@@ -3,7 +3,7 @@ use mathlib.Core.Path.{◌≡◌, sym}
 use native.Mathlib.Omega.{arith}
 use lib.ListN.{length, take}
 use lib.Seq.{length-take-le}
-use Rattle.alloc.proofs.Filled.{listed-filled, tables-refused}
+use Rattle.alloc.proofs.Filled.{listed_filled, tables_refused}
 use borrow.Author.Rules.{rules}
 use Rattle.alloc.proofs.open.load_zeroed.Statement.{statement}
 use Rattle.alloc.proofs.open.load_zeroed.Tie as tie
@@ -17,7 +17,7 @@ entry c = c.before.before.before.before.before.before.before.before.before.befor
 
 -- the front that is listed has n entries
 front : (c : tie.After-list-free-arg) → length (take (entry (loaded c)).args.n (loaded c).fill-tables.new.1.1.1.1.1.0) ≡ (entry (loaded c)).args.n
-front c = length-take-le _ _ (omega (arith, (loaded c).fill-tables.auto.1.1.1.1.1.0, (entry (loaded c)).requires.fat-long))
+front c = length-take-le _ _ (omega (arith, (loaded c).fill-tables.auto.1.1.1.1.1.0, (entry (loaded c)).requires.fat_long))
 
 -- where the loading was refused
 abbrev refused : tie.Then1 → tie.After-fill-tables
@@ -42,7 +42,7 @@ same-length-5 : tie.Need-same-length-5
 same-length-5 c = search rules
 
 returns : tie.Need-returns
-returns c = tables-refused _ _ _ _ _ _ _ _ _ _ _ _ _ _ _ _ (refused c).fill-tables.ensures c.if1.true
+returns c = tables_refused _ _ _ _ _ _ _ _ _ _ _ _ _ _ _ _ (refused c).fill-tables.ensures c.if1.true
 
 fill32-requires : tie.Need-fill32-requires
 fill32-requires c κs = search rules
@@ -56,7 +56,7 @@ slice-aggregate-list-free c = sym (front c)
 list-free-requires : tie.Need-list-free-requires
 list-free-requires c κs =
     let l = loaded c.before in
-    (omega (arith, front c.before, c.before.before.before.before.fill32.auto.0, l.fill-tables.kept.1.1.1.1.1.1.1.1.0, (entry l).pre.scratch-long), omega (arith, front c.before, (entry l).pre.few))
+    (omega (arith, front c.before, c.before.before.before.before.fill32.auto.0, l.fill-tables.kept.1.1.1.1.1.1.1.1.0, (entry l).pre.scratch_long), omega (arith, front c.before, (entry l).pre.few))
 
 same-length-6 : tie.Need-same-length-6
 same-length-6 c = search rules
@@ -77,7 +77,7 @@ returns-2 : tie.Need-returns-2
 returns-2 c =
     let listing = c.before.before.before.before in
     let l = loaded listing in
-    listed-filled _ _ _ _ _ _ _ _ _ _ _ _ _ _ _ _ _ _ _ listing.before.before.before.before.before.if1.false l.fill-tables.ensures listing.before.before.before.fill32.ensures l.fill-tables.kept.1.1.1.1.1.1.1.1.0 c.before.before.list-free.ensures
+    listed_filled _ _ _ _ _ _ _ _ _ _ _ _ _ _ _ _ _ _ _ listing.before.before.before.before.before.if1.false l.fill-tables.ensures listing.before.before.before.fill32.ensures l.fill-tables.kept.1.1.1.1.1.1.1.1.0 c.before.before.list_free.ensures
 
 pub load-zeroed-spec : {M : Type 1} → statement M
 load-zeroed-spec =

@@ -3,9 +3,9 @@ use Prim.Native.Nat.{ℕ}
 use mathlib.Core.Path.{◌≡◌, sym, ◌∙◌, ap}
 use mathlib.Core.List.{List}
 use Rattle.lists.specs.Rows.{refusal}
-use Rattle.alloc.specs.Opening.{Tables, firstRows, shortest}
-use Rattle.alloc.proofs.First.{early-len, early-sectors, early-own}
-use Rattle.alloc.proofs.Opens.{opens-early, opens-lent, opens-refused, opens, loaded-own, lent-own, found-own}
+use Rattle.alloc.specs.Opening.{Tables, first_rows, shortest}
+use Rattle.alloc.proofs.First.{early_len, early_sectors, early_own}
+use Rattle.alloc.proofs.Opens.{opens_early, opens_lent, opens_refused, opens, loaded_own, lent_own, found_own}
 use borrow.Author.Rules.{rules}
 use Rattle.alloc.proofs.open.open_tables.Statement.{statement}
 use Rattle.alloc.proofs.open.open_tables.Tie as tie
@@ -21,8 +21,8 @@ abbrev tables : tie.After-judge-early → Tables
 tables j = record { fat = (entry j).args.fat.now; fats = (entry j).args.fats.now; difats = (entry j).args.difats.now; frees = (entry j).args.frees.now; marks = (entry j).args.marks.now }
 
 -- the number that is judged first is that of the first rows
-first : (j : tie.After-judge-early) → j.judge-early.result.no ≡ refusal (firstRows (entry j).args.validation (img j) (entry j).args.used (shortest (tables j)))
-first j = j.judge-early.ensures.number ∙ ap (λ (k : ℕ). refusal (firstRows (entry j).args.validation (img j) (entry j).args.used k)) j.before.shortest.ensures
+first : (j : tie.After-judge-early) → j.judge-early.result.no ≡ refusal (first_rows (entry j).args.validation (img j) (entry j).args.used (shortest (tables j)))
+first j = j.judge-early.ensures.number ∙ ap (λ (k : ℕ). refusal (first_rows (entry j).args.validation (img j) (entry j).args.used k)) j.before.shortest.ensures
 
 -- where the first rows were passed, before the tables are loaded, and what the code has from them
 abbrev passed : tie.After-load-all-arg5 → tie.Else1
@@ -31,7 +31,7 @@ passed c = c.before.before.before.before.before.before.before
 abbrev early : tie.After-load-all-arg5 → tie.After-judge-early
 early c = (passed c).before
 
-zero : (c : tie.After-load-all-arg5) → refusal (firstRows (entry (early c)).args.validation (img (early c)) (entry (early c)).args.used (shortest (tables (early c)))) ≡ 0
+zero : (c : tie.After-load-all-arg5) → refusal (first_rows (entry (early c)).args.validation (img (early c)) (entry (early c)).args.used (shortest (tables (early c)))) ≡ 0
 zero c = sym (first (early c)) ∙ (passed c).if1.false
 
 -- where the tables were loaded
@@ -63,7 +63,7 @@ same-length-5 : tie.Need-same-length-5
 same-length-5 c = search rules
 
 returns : tie.Need-returns
-returns c = let j = c.before.before in opens-early _ _ _ (tables j) _ _ c.nothing.ensures (first j) c.before.if1.true
+returns c = let j = c.before.before in opens_early _ _ _ (tables j) _ _ c.nothing.ensures (first j) c.before.if1.true
 
 is-strict-requires : tie.Need-is-strict-requires
 is-strict-requires c κs = search rules
@@ -72,7 +72,7 @@ load-all-requires : tie.Need-load-all-requires
 load-all-requires c κs =
     let e = (early c).judge-early.ensures in
     let z = (passed c).if1.false in
-    lent-own _ _ _ _ _ _ _ _ _ _ (early-len e z) (early-sectors e z) (opens-lent _ _ _ (tables (early c)) (zero c))
+    lent_own _ _ _ _ _ _ _ _ _ _ (early_len e z) (early_sectors e z) (opens_lent _ _ _ (tables (early c)) (zero c))
 
 nothing-requires-2 : tie.Need-nothing-requires-2
 nothing-requires-2 c κs = search rules
@@ -98,8 +98,8 @@ returns-2 c =
     let a = l.before in
     let e = (early a).judge-early.ensures in
     let z = (passed a).if1.left in
-    opens-refused _ _ _ (tables (early a)) (zero a) _ _ _ _ _ _
-    (loaded-own _ _ _ _ _ _ _ _ _ _ _ _ _ _ _ _ _ _ _ _ a.before.before.before.before.before.is-strict.ensures (early-len e z) (early-own e z) (early-sectors e z) l.load-all.ensures) _ c.nothing2.ensures c.before.if2.true
+    opens_refused _ _ _ (tables (early a)) (zero a) _ _ _ _ _ _
+    (loaded_own _ _ _ _ _ _ _ _ _ _ _ _ _ _ _ _ _ _ _ _ a.before.before.before.before.before.is-strict.ensures (early_len e z) (early_own e z) (early_sectors e z) l.load-all.ensures) _ c.nothing2.ensures c.before.if2.true
 
 same-length-11 : tie.Need-same-length-11
 same-length-11 c = search rules
@@ -123,7 +123,7 @@ returns-3 c =
     let e = (early a).judge-early.ensures in
     let z = (passed a).if1.left in
     opens _ _ _ (tables (early a)) (zero a) _ _ _ _ _ _
-    (loaded-own _ _ _ _ _ _ _ _ _ _ _ _ _ _ _ _ _ _ _ _ a.before.before.before.before.before.is-strict.ensures (early-len e z) (early-own e z) (early-sectors e z) l.load-all.ensures) _ (found-own _ _ _ _ _ (early-sectors e z) (early-own e z)) c.if2.false
+    (loaded_own _ _ _ _ _ _ _ _ _ _ _ _ _ _ _ _ _ _ _ _ a.before.before.before.before.before.is-strict.ensures (early_len e z) (early_own e z) (early_sectors e z) l.load-all.ensures) _ (found_own _ _ _ _ _ (early_sectors e z) (early_own e z)) c.if2.false
 
 pub open-tables-spec : {M : Type 1} → statement M
 open-tables-spec =

@@ -6,8 +6,8 @@ use native.Mathlib.Omega.{arith}
 use Rattle.fat.specs.Loaded.{Covers}
 use borrow.Author.Tests.{not-true, not-false}
 use lib.ListN.{length, replicate}
-use Rattle.fat.proofs.Differing.{below-kept}
-use Rattle.alloc.proofs.Opening.{lists-fats, lists-difats, lists-cover, tables-12, tables-13, tables-judged}
+use Rattle.fat.proofs.Differing.{below_kept}
+use Rattle.alloc.proofs.Opening.{lists_fats, lists_difats, lists_cover, tables_12, tables_13, tables_judged}
 use borrow.Author.Rules.{rules}
 use Rattle.alloc.proofs.tables.load_tables.Statement.{statement}
 use Rattle.alloc.proofs.tables.load_tables.Tie as tie
@@ -35,7 +35,7 @@ right c = not-false _ c.if1.false
 
 covers : (c : tie.Else1)
     → Covers (entry c).args.s (length (entry c).args.fat.now) (length (entry c).args.image.now) (at-lists c).load-lists.new.1.1.1.1.0 (length (entry c).args.fat.now)
-covers c = lists-cover _ _ _ _ _ _ _ (at-lists c).load-lists.ensures (right c) _ _ _ (entry c).requires.0 (at-lists c).load-lists.auto.1.1.1.1.0
+covers c = lists_cover _ _ _ _ _ _ _ (at-lists c).load-lists.ensures (right c) _ _ _ (entry c).requires.0 (at-lists c).load-lists.auto.1.1.1.1.0
 
 load-lists-requires : tie.Need-load-lists-requires
 load-lists-requires c κs = search rules
@@ -50,7 +50,7 @@ same-length-3 : tie.Need-same-length-3
 same-length-3 c = search rules
 
 returns : tie.Need-returns
-returns c = tables-12 _ _ _ _ _ _ _ _ _ _ (listed c.before).load-lists.ensures (not-true _ c.if1.true)
+returns c = tables_12 _ _ _ _ _ _ _ _ _ _ (listed c.before).load-lists.ensures (not-true _ c.if1.true)
 
 tail-free-requires : tie.Need-tail-free-requires
 tail-free-requires c κs = covers c.before
@@ -67,7 +67,7 @@ same-length-6 c = search rules
 returns-2 : tie.Need-returns-2
 returns-2 c =
     let e = c.before.before.before in
-    tables-13 _ _ _ _ _ _ _ _ (at-lists e).load-lists.ensures (right e) _ _ _ c.before.tail-free.ensures (not-true _ c.if2.true)
+    tables_13 _ _ _ _ _ _ _ _ (at-lists e).load-lists.ensures (right e) _ _ _ c.before.tail_free_lem.ensures (not-true _ c.if2.true)
 
 load-fat-requires : tie.Need-load-fat-requires
 load-fat-requires c κs = covers c.before.before.before.before.before
@@ -77,8 +77,8 @@ judge-fat-requires c κs =
     let e = (passed (fat-loaded c)).before.before.before in
     let k = (fat-loaded c).load-fat.auto in (
       (
-        below-kept _ _ _ k.1.1.1.1.0 (lists-difats _ _ _ _ _ _ _ (at-lists e).load-lists.ensures (right e)),
-        below-kept _ _ _ k.1.1.1.1.0 (lists-fats _ _ _ _ _ _ _ (at-lists e).load-lists.ensures (right e)),
+        below_kept _ _ _ k.1.1.1.1.0 (lists_difats _ _ _ _ _ _ _ (at-lists e).load-lists.ensures (right e)),
+        below_kept _ _ _ k.1.1.1.1.0 (lists_fats _ _ _ _ _ _ _ (at-lists e).load-lists.ensures (right e)),
       ),
       (omega (arith, k.1.1.1.1.0, (entry e).pre.0.few), (entry e).pre.1.1 ∙ ap (λ (m : ℕ). replicate m 0) (sym k.1.1.1.1.0)),
     )
@@ -103,7 +103,7 @@ returns-3 c =
     let f = fat-loaded c.before.before.before.before.before in
     let i = passed f in
     let e = i.before.before.before in
-    tables-judged _ _ _ _ _ _ _ _ (at-lists e).load-lists.ensures (right e) _ _ _ _ _ i.before.tail-free.ensures (not-false _ i.if2.left)
+    tables_judged _ _ _ _ _ _ _ _ (at-lists e).load-lists.ensures (right e) _ _ _ _ _ i.before.tail_free_lem.ensures (not-false _ i.if2.left)
     f.load-fat.ensures f.load-fat.kept.1.1.1.1.0 c.before.before.before.before.judge-fat.ensures
 
 pub load-tables-spec : {M : Type 1} → statement M

@@ -1,6 +1,6 @@
 -- The literal is the definition.
 use borrow.Author.Rules.{rules}
-use Rattle.cfb.specs.Face.{noState}
+use Rattle.cfb.specs.Face.{no_state}
 use Rattle.cfb.proofs.State.none.Statement.{statement}
 use Rattle.cfb.proofs.State.none.Tie as tie
 
@@ -8,7 +8,7 @@ none-requires : tie.Need-none-requires
 none-requires c κs = search rules
 
 returns : tie.Need-returns
-unfolding noState
+unfolding no_state
 returns c = rw c.none.ensures
 
 pub none_spec : {M : Type 1} → statement M

@@ -3,7 +3,7 @@ use mathlib.Core.Path.{refl}
 use borrow.Author.Rules.{rules}
 use Rattle.cfb.proofs.State.open.Statement.{statement}
 use Rattle.cfb.proofs.State.open.Tie as tie
-use Rattle.cfb.proofs.Facing.{face-refused, face-accepted}
+use Rattle.cfb.proofs.Facing.{face_refused, face_accepted}
 
 -- where the tables' opening is done
 abbrev refused : tie.After-none → tie.After-open-tables
@@ -34,7 +34,7 @@ same-length-5 : tie.Need-same-length-5
 same-length-5 c = search rules
 
 returns : tie.Need-returns
-returns c = face-refused _ _ _ _ _ _ _ (refused c).open-tables.ensures refl c.before.if1.true _ _ refl c.none.ensures
+returns c = face_refused _ _ _ _ _ _ _ (refused c).open-tables.ensures refl c.before.if1.true _ _ refl c.none.ensures
 
 same-length-6 : tie.Need-same-length-6
 same-length-6 c = search rules
@@ -52,7 +52,7 @@ same-length-10 : tie.Need-same-length-10
 same-length-10 c = search rules
 
 returns-2 : tie.Need-returns-2
-returns-2 c = face-accepted _ _ _ _ _ _ _ (accepted c).open-tables.ensures refl c.before.if1.false
+returns-2 c = face_accepted _ _ _ _ _ _ _ (accepted c).open-tables.ensures refl c.before.if1.false
 
 pub open_spec : {M : Type 1} → statement M
 open_spec =

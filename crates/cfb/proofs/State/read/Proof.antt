@@ -6,8 +6,8 @@ use lib.ListN.{replicate}
 use Rattle.alloc.specs.Opening.{Tables}
 use Rattle.walk.specs.declared.Walked.TheVariants.{Listed}
 use Rattle.cfb.specs.declared.State.{State}
-use Rattle.cfb.proofs.Answering.{reads-refused, reads-past, reads-done}
-use Rattle.cfb.proofs.Lying.{read-own, past-own, within-own, listed-count, listed-within, listed-bytes, listed-readable}
+use Rattle.cfb.proofs.Answering.{reads_refused, reads_past, reads_done}
+use Rattle.cfb.proofs.Lying.{read_own, past_own, within_own, listed_count, listed_within, listed_bytes, listed_readable}
 use borrow.Author.Rules.{rules}
 use Rattle.cfb.proofs.State.read.Statement.{statement}
 use Rattle.cfb.proofs.State.read.Tie as tie
@@ -49,13 +49,13 @@ same_length : tie.Need-same-length
 same_length c = search rules
 
 returns : tie.Need-returns
-returns c = reads-refused _ _ (tables c.before.before.before.before.before) _ _ _ _ c.before.before.before.before.before.chain-of.ensures _ _ _ _ c.before.enum_told.given.1 c.answer-of.ensures
+returns c = reads_refused _ _ (tables c.before.before.before.before.before) _ _ _ _ c.before.before.before.before.before.chain-of.ensures _ _ _ _ c.before.enum_told.given.1 c.answer-of.ensures
 
 len-of-requires : tie.Need-len-of-requires
 len-of-requires c κs = search rules
 
 mul-if1 : tie.Need-overflow-mul-if1
-mul-if1 c = omega (arith, listed-bytes _ _ (tables (listed c)) _ _ _ _ (listed c).chain-of.ensures _ (walked-is c) c.len_of_lem.ensures)
+mul-if1 c = omega (arith, listed_bytes _ _ (tables (listed c)) _ _ _ _ (listed c).chain-of.ensures _ (walked-is c) c.len_of_lem.ensures)
 
 fill32-requires : tie.Need-fill32-requires
 fill32-requires c κs = search rules
@@ -66,16 +66,16 @@ same-length-2 c = search rules
 returns-2 : tie.Need-returns-2
 returns-2 c =
     let k = c.before.before.before.before.before in
-    reads-past _ _ (tables (listed k)) _ _ _ _ (listed k).chain-of.ensures _ _ _ (walked-is k) _ (past-own _ k.len_of_lem.ensures c.before.before.before.before.if1.true) (c.before.before.fill32.ensures ∙ ap (λ (n : ℕ). replicate n 0) (listed k).chain-of.auto.1.1.1.1.1.1.1.0)
+    reads_past _ _ (tables (listed k)) _ _ _ _ (listed k).chain-of.ensures _ _ _ (walked-is k) _ (past_own _ k.len_of_lem.ensures c.before.before.before.before.if1.true) (c.before.before.fill32.ensures ∙ ap (λ (n : ℕ). replicate n 0) (listed k).chain-of.auto.1.1.1.1.1.1.1.0)
 
 slice-reshare-prefix-read : tie.Need-slice-reshare-prefix-read
-slice-reshare-prefix-read c = let k = c.before in listed-within _ _ (tables (listed k)) _ _ _ _ (listed k).chain-of.ensures _ (walked-is k)
+slice-reshare-prefix-read c = let k = c.before in listed_within _ _ (tables (listed k)) _ _ _ _ (listed k).chain-of.ensures _ (walked-is k)
 
 slice-aggregate-read : tie.Need-slice-aggregate-read
-slice-aggregate-read c = let k = c.before.before in sym (listed-count _ _ (tables (listed k)) _ _ _ _ (listed k).chain-of.ensures _ (walked-is k))
+slice-aggregate-read c = let k = c.before.before in sym (listed_count _ _ (tables (listed k)) _ _ _ _ (listed k).chain-of.ensures _ (walked-is k))
 
 read-requires : tie.Need-read-requires
-read-requires c κs = let k = c.before.before.before in listed-readable _ _ (tables (listed k)) _ _ _ _ (listed k).chain-of.ensures _ (walked-is k) k.len_of_lem.ensures c.before.before.if1.false
+read-requires c κs = let k = c.before.before.before in listed_readable _ _ (tables (listed k)) _ _ _ _ (listed k).chain-of.ensures _ (walked-is k) k.len_of_lem.ensures c.before.before.if1.false
 
 same-length-3 : tie.Need-same-length-3
 same-length-3 c = search rules
@@ -86,7 +86,7 @@ same-length-4 c = search rules
 returns-3 : tie.Need-returns-3
 returns-3 c =
     let k = (within c).before in
-    reads-done _ _ (tables (listed k)) _ _ _ _ (listed k).chain-of.ensures _ _ _ (walked-is k) _ _ (within-own _ k.len_of_lem.ensures (within c).if1.false) (read-own k.len_of_lem.ensures c.before.before.read.ensures)
+    reads_done _ _ (tables (listed k)) _ _ _ _ (listed k).chain-of.ensures _ _ _ (walked-is k) _ _ (within_own _ k.len_of_lem.ensures (within c).if1.false) (read_own k.len_of_lem.ensures c.before.before.read.ensures)
 
 pub read_spec : {M : Type 1} → statement M
 read_spec =

@@ -5,14 +5,14 @@ use mathlib.Core.Bool.{true, false}
 use borrow.Author.Tests.{not-true, not-false}
 use lib.Dec.{ltb}
 use lib.ListN.{length, replicate}
-use Rattle.fat.specs.Lists.{roomOf}
+use Rattle.fat.specs.Lists.{room_of}
 use Rattle.alloc.specs.Opening.{Tables, shortest}
 use Rattle.agree.specs.Agree.{agreement}
-use Rattle.agree.proofs.Meaning.{agrees-exactly}
-use Rattle.cfb.specs.Calls.{stateLen}
+use Rattle.agree.proofs.Meaning.{agrees_exactly}
+use Rattle.cfb.specs.Calls.{state_len}
 use Rattle.cfb.specs.declared.State.{State}
-use Rattle.cfb.proofs.Agreed.{Chained, agreed-chained}
-use Rattle.cfb.proofs.Calling.{room-short, room-long, room-enough, listed-short, listed-apart, listed-walked}
+use Rattle.cfb.proofs.Agreed.{Chained, agreed_chained}
+use Rattle.cfb.proofs.Calling.{room_short, room_long, room_enough, listed_short, listed_apart, listed_walked}
 use borrow.Author.Rules.{rules}
 use Rattle.cfb.proofs.calls.chain_of.Statement.{statement}
 use Rattle.cfb.proofs.calls.chain_of.Tie as tie
@@ -35,11 +35,11 @@ short-is c = c.before.lesser.ensures.2 ∙ ap (λ (n : ℕ). min n (length (begu
 abbrev asked : tie.After-agrees → tie.After-room-of
 asked c = c.before.before.before
 
-long-enough : (c : tie.After-agrees) → ltb (min (shortest (tables (asked c))) (length (begun (asked c)).args.ids.now)) (roomOf (stateLen (state (asked c))) (length (begun (asked c)).args.image.now)) ≡ false
-long-enough c = room-long (short-is (asked c)) (asked c).room_of.ensures c.before.before.if1.false
+long_enough : (c : tie.After-agrees) → ltb (min (shortest (tables (asked c))) (length (begun (asked c)).args.ids.now)) (room_of (state_len (state (asked c))) (length (begun (asked c)).args.image.now)) ≡ false
+long_enough c = room_long (short-is (asked c)) (asked c).room_of.ensures c.before.before.if1.false
 
-list-kept : (c : tie.After-agrees) → length c.agrees.new.1.1.1.1.1.1.1.1.1.1.1.0 ≡ length (begun (asked c)).args.ids.now
-list-kept c = c.agrees.auto.1.1.1.1.1.1.1.1.1.1.1.0
+list_kept : (c : tie.After-agrees) → length c.agrees.new.1.1.1.1.1.1.1.1.1.1.1.0 ≡ length (begun (asked c)).args.ids.now
+list_kept c = c.agrees.auto.1.1.1.1.1.1.1.1.1.1.1.0
 
 -- the way out where it is not, and the test behind the walk
 abbrev apart : tie.After-slice-known3 → tie.After-agrees
@@ -52,11 +52,11 @@ abbrev passed : tie.After-walk → tie.Else2
 passed c = c.before.before.before
 
 -- what agrees can be walked
-walkable : (c : tie.After-agrees) → c.agrees.result ≡ true → Chained (stateLen (state (asked c))) (begun (asked c)).args.image.now (begun (asked c)).args.fat.now (state (asked c)).sectors
+walkable : (c : tie.After-agrees) → c.agrees.result ≡ true → Chained (state_len (state (asked c))) (begun (asked c)).args.image.now (begun (asked c)).args.fat.now (state (asked c)).sectors
 walkable c e =
     let s = state (asked c) in
-    agreed-chained s.mode _ s.used s.sectors s.free s.header (tables (asked c))
-    ((agrees-exactly s.mode _ s.used s.sectors s.free s.header (tables (asked c))).0 (sym c.agrees.ensures ∙ e))
+    agreed_chained s.mode _ s.used s.sectors s.free s.header (tables (asked c))
+    ((agrees_exactly s.mode _ s.used s.sectors s.free s.header (tables (asked c))).0 (sym c.agrees.ensures ∙ e))
 
 shortest-requires : tie.Need-shortest-requires
 shortest-requires c κs = search rules
@@ -68,7 +68,7 @@ room-of-requires : tie.Need-room-of-requires
 room-of-requires c κs = search rules
 
 returns : tie.Need-returns
-returns c = listed-short _ _ (tables c.before) _ _ (room-short (short-is c.before) c.before.room_of.ensures c.if1.true)
+returns c = listed_short _ _ (tables c.before) _ _ (room_short (short-is c.before) c.before.room_of.ensures c.if1.true)
 
 agrees-requires : tie.Need-agrees-requires
 agrees-requires c κs = search rules
@@ -82,7 +82,7 @@ same_length c = search rules
 returns-2 : tie.Need-returns-2
 returns-2 c =
     let a = apart c in
-    listed-apart _ _ (tables (asked a)) _ _ (long-enough a) _ (sym a.agrees.ensures ∙ not-true _ c.before.before.before.before.if2.true) (c.before.before.fill32.ensures ∙ ap (λ (n : ℕ). replicate n 0) (list-kept a))
+    listed_apart _ _ (tables (asked a)) _ _ (long_enough a) _ (sym a.agrees.ensures ∙ not-true _ c.before.before.before.before.if2.true) (c.before.before.fill32.ensures ∙ ap (λ (n : ℕ). replicate n 0) (list_kept a))
 
 slice-aggregate-walk : tie.Need-slice-aggregate-walk
 slice-aggregate-walk c = let a = c.before.before.before.before in sym (walkable a (not-false _ c.before.if2.false)).count
@@ -91,7 +91,7 @@ walk-requires : tie.Need-walk-requires
 walk-requires c κs =
     let a = c.before.before.before.before.before in
     let k = walkable a (not-false _ c.before.before.if2.false) in
-    record { few = k.few; once = k.once; room = room-enough (shortest (tables (asked a))) k.count k.room (long-enough a) (list-kept a) }
+    record { few = k.few; once = k.once; room = room_enough (shortest (tables (asked a))) k.count k.room (long_enough a) (list_kept a) }
 
 clear-past-requires : tie.Need-clear-past-requires
 clear-past-requires c κs = search rules
@@ -103,7 +103,7 @@ returns-3 : tie.Need-returns-3
 returns-3 c =
     let a = (passed (over c)).before.before.before in
     let k = walkable a (not-false _ (passed (over c)).if2.false) in
-    listed-walked _ _ (tables (asked a)) _ _ (long-enough a) (sym a.agrees.ensures ∙ not-false _ (passed (over c)).if2.false) k.few k.once _ _ _ _ (list-kept a) (over c).walk.ensures (over c).walk.auto.1.1.0 c.before.before.clear-past.ensures
+    listed_walked _ _ (tables (asked a)) _ _ (long_enough a) (sym a.agrees.ensures ∙ not-false _ (passed (over c)).if2.false) k.few k.once _ _ _ _ (list_kept a) (over c).walk.ensures (over c).walk.auto.1.1.0 c.before.before.clear-past.ensures
 
 pub chain-of-spec : {M : Type 1} → statement M
 chain-of-spec =

@@ -1,6 +1,6 @@
 -- Each case of the walk's answer is zeroed from its own place on.
 use borrow.Author.Rules.{rules}
-use Rattle.cfb.proofs.Clearing.{cleared-listed, cleared-refused}
+use Rattle.cfb.proofs.Clearing.{cleared_listed, cleared_refused}
 use Rattle.cfb.proofs.calls.clear_past.Statement.{statement}
 use Rattle.cfb.proofs.calls.clear_past.Tie as tie
 
@@ -20,13 +20,13 @@ same_length : tie.Need-same-length
 same_length c = search rules
 
 returns : tie.Need-returns
-returns c = cleared-listed _ _ _ _ c.before.before.before.before.before.walked.given.1 c.before.before.zero-from.ensures
+returns c = cleared_listed _ _ _ _ c.before.before.before.before.before.walked.given.1 c.before.before.zero-from.ensures
 
 same-length-2 : tie.Need-same-length-2
 same-length-2 c = search rules
 
 returns-2 : tie.Need-returns-2
-returns-2 c = cleared-refused _ _ _ _ c.before.before.before.before.enum_told.given.1 c.before.before.zero-from2.ensures
+returns-2 c = cleared_refused _ _ _ _ c.before.before.before.before.enum_told.given.1 c.before.before.zero-from2.ensures
 
 pub clear-past-spec : {M : Type 1} → statement M
 clear-past-spec =

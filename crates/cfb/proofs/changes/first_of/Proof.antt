@@ -1,5 +1,5 @@
 -- A chain of none starts at END.
-use Rattle.cfb.proofs.Ending.{start_none, start-some}
+use Rattle.cfb.proofs.Ending.{start_none, start_some}
 use borrow.Author.Rules.{rules}
 use Rattle.cfb.proofs.changes.first_of.Statement.{statement}
 use Rattle.cfb.proofs.changes.first_of.Tie as tie
@@ -11,7 +11,7 @@ shared-slice-read-result : tie.Need-shared-slice-read-result
 shared-slice-read-result c = search rules
 
 returns-2 : tie.Need-returns-2
-returns-2 c = start-some _ _ c.before.if1.false
+returns-2 c = start_some _ _ c.before.if1.false
 
 pub first-of-spec : {M : Type 1} → statement M
 first-of-spec = tie.close (tie.spec returns shared-slice-read-result returns-2)

@@ -6,8 +6,8 @@ use lib.Dec.{eqb}
 use lib.ListN.{length, get_or}
 use Rattle.lists.specs.Lists.{every}
 use Rattle.judge.specs.Judge.{forgiven}
-use Rattle.points.proofs.Testing.{flag-more}
-use Rattle.compare.proofs.Keeping.{forgiven-tells}
+use Rattle.points.proofs.Testing.{flag_more}
+use Rattle.compare.proofs.Keeping.{forgiven_tells}
 use borrow.Author.Rules.{rules}
 use Rattle.compare.proofs.permissive.is_forgiven.Statement.{statement}
 use Rattle.compare.proofs.permissive.is_forgiven.Tie as tie
@@ -51,13 +51,13 @@ loop-less : tie.Need-loop-smaller invariant-loop decreases-loop
 loop-less c = omega arith
 
 loop-again : tie.Need-loop-preserved invariant-loop decreases-loop
-loop-again c = (omega arith, flag-more _ _ _ _ c.before.before.before.before.loop.invariant.1 (ap (eqb _) c.forgiven.ensures))
+loop-again c = (omega arith, flag_more _ _ _ _ c.before.before.before.before.loop.invariant.1 (ap (eqb _) c.forgiven.ensures))
 
 returns : tie.Need-returns invariant-loop decreases-loop
 returns c =
     let l = c.before.loop in
     let all : l.i ≡ length (entry c.before).args.fat.now = omega arith in
-    rw all at l.invariant.1 ∙ forgiven-tells _ _ _ c.before.before.limit-of.ensures
+    rw all at l.invariant.1 ∙ forgiven_tells _ _ _ c.before.before.limit-of.ensures
 
 pub is-forgiven-spec : {M : Type 1} → statement M
 is-forgiven-spec =

@@ -4,15 +4,15 @@ use mathlib.Core.Path.{◌≡◌, refl, ◌∙◌, ap}
 use native.Mathlib.Omega.{arith}
 use lib.ListN.{length, get_or}
 use Rattle.lists.specs.Lists.{every}
-use Rattle.sectors.specs.Sectors.{entryIn}
-use Rattle.points.proofs.Testing.{flag-more}
-use Rattle.compare.specs.Compare.{entryKept}
+use Rattle.sectors.specs.Sectors.{entry_in}
+use Rattle.points.proofs.Testing.{flag_more}
+use Rattle.compare.specs.Compare.{entry_kept}
 use borrow.Author.Rules.{rules}
 use Rattle.compare.proofs.strict.entries_kept.Statement.{statement}
 use Rattle.compare.proofs.strict.entries_kept.Tie as tie
 
 abbrev invariant-loop : tie.invariant-loop
-invariant-loop limit sector fat kept₀ j₀ kept j = (j ≤ length fat) × (kept ≡ every j (λ k. entryKept limit (entryIn sector k) (get_or fat k 0)))
+invariant-loop limit sector fat kept₀ j₀ kept j = (j ≤ length fat) × (kept ≡ every j (λ k. entry_kept limit (entry_in sector k) (get_or fat k 0)))
 
 abbrev decreases-loop : tie.decreases-loop
 decreases-loop limit sector fat kept₀ j₀ kept j = length fat - j
@@ -48,7 +48,7 @@ loop-again c =
     let at = c.before.before.before.before in
     let l = at.loop in
     let a = (entry at).args in
-    (omega arith, flag-more _ _ _ _ l.invariant.1 (c.entry_kept.ensures ∙ ap (λ (own : ℕ). entryKept a.limit own (get_or a.fat.now l.j 0)) c.before.before.entry.ensures))
+    (omega arith, flag_more _ _ _ _ l.invariant.1 (c.entry_kept.ensures ∙ ap (λ (own : ℕ). entry_kept a.limit own (get_or a.fat.now l.j 0)) c.before.before.entry.ensures))
 
 returns : tie.Need-returns invariant-loop decreases-loop
 returns c =

@@ -4,17 +4,17 @@ use mathlib.Core.Path.{◌≡◌, refl}
 use native.Mathlib.Omega.{arith}
 use borrow.Author.Rules.{rules}
 use lib.ListN.{length, get_or, length-take}
-use Rattle.sectors.specs.Sectors.{perSector, entry_of}
-use Rattle.sectors.proofs.Laws.{sector-within}
-use Rattle.fat.proofs.Differing.{below-given}
-use Rattle.fat.proofs.Loading.{sector-begins}
-use Rattle.compare.specs.Compare.{entryKept}
-use Rattle.compare.proofs.Running.{Tested, tested-none, tested-more, tested-all, sector-run}
+use Rattle.sectors.specs.Sectors.{per_sector, entry_of}
+use Rattle.sectors.proofs.Laws.{sector_within}
+use Rattle.fat.proofs.Differing.{below_given}
+use Rattle.fat.proofs.Loading.{sector_begins}
+use Rattle.compare.specs.Compare.{entry_kept}
+use Rattle.compare.proofs.Running.{Tested, tested_none, tested_more, tested_all, sector_run}
 use Rattle.compare.proofs.strict.fat_kept.Statement.{statement}
 use Rattle.compare.proofs.strict.fat_kept.Tie as tie
 
 abbrev invariant-loop : tie.invariant-loop
-invariant-loop limit image s fats fat each kept₀ p₀ kept p = (p ≤ length fats) × (each ≡ perSector s) × Tested (λ i. entryKept limit (entry_of s image fats i) (get_or fat i 0)) (perSector s) (length fat) p kept
+invariant-loop limit image s fats fat each kept₀ p₀ kept p = (p ≤ length fats) × (each ≡ per_sector s) × Tested (λ i. entry_kept limit (entry_of s image fats i) (get_or fat i 0)) (per_sector s) (length fat) p kept
 
 abbrev decreases-loop : tie.decreases-loop
 decreases-loop limit image s fats fat each kept₀ p₀ kept p = length fats - p
@@ -24,11 +24,11 @@ abbrev entry : tie.At-loop invariant-loop decreases-loop → tie.Start invariant
 entry c = c.before.before.before.before
 
 -- sector p begins among the entries
-begins : (c : tie.In-loop invariant-loop decreases-loop) → c.before.loop.p * perSector (entry c.before).args.s < length (entry c.before).args.fat.now
-begins c = sector-begins _ _ _ _ c.loop-test.true (entry c.before).pre.last
+begins : (c : tie.In-loop invariant-loop decreases-loop) → c.before.loop.p * per_sector (entry c.before).args.s < length (entry c.before).args.fat.now
+begins c = sector_begins _ _ _ _ c.loop-test.true (entry c.before).pre.last
 
 loop-holds : tie.Need-loop-init invariant-loop decreases-loop
-loop-holds c = (omega arith, refl, tested-none _ _ _)
+loop-holds c = (omega arith, refl, tested_none _ _ _)
 
 mul-a : tie.Need-overflow-mul-a invariant-loop decreases-loop
 mul-a c = omega (arith, begins c)
@@ -64,7 +64,7 @@ sector-kept-requires : tie.Need-sector-kept-requires invariant-loop decreases-lo
 sector-kept-requires c κs =
     let turn = c.before.before.before.before in
     let g = entry turn.before in (
-      sector-within _ _ _ _ g.pre.holds (below-given _ _ _ _ _ g.pre.below turn.loop-test.true c.before.index.ensures refl),
+      sector_within _ _ _ _ g.pre.holds (below_given _ _ _ _ _ g.pre.below turn.loop-test.true c.before.index.ensures refl),
       (omega (arith, g.pre.holds.two), simp length-take (omega (arith, g.pre.holds.entries, c.before.before.before.lesser.ensures))),
     )
 
@@ -83,8 +83,8 @@ loop-again c =
     let low = begins turn in (
       omega arith,
       l.invariant.1,
-      tested-more _ _ _ l.p _ _ _ l.invariant.2 low end.2
-          (sector-run (entryKept a.limit) a.s a.image.now a.fats.now a.fat.now l.p _ _ _ (omega (arith, low, end)) end.1 (omega (arith, end)) c.before.before.index.ensures c.sector-kept.ensures),
+      tested_more _ _ _ l.p _ _ _ l.invariant.2 low end.2
+          (sector_run (entry_kept a.limit) a.s a.image.now a.fats.now a.fat.now l.p _ _ _ (omega (arith, low, end)) end.1 (omega (arith, end)) c.before.before.index.ensures c.sector-kept.ensures),
     )
 
 returns : tie.Need-returns invariant-loop decreases-loop
@@ -92,7 +92,7 @@ returns c =
     let l = c.before.loop in
     let g = entry c.before in
     let e : l.p ≡ length g.args.fats.now = omega arith in
-    tested-all _ _ _ l.p _ l.invariant.2 (rw e g.pre.enough)
+    tested_all _ _ _ l.p _ l.invariant.2 (rw e g.pre.enough)
 
 pub fat-kept-spec : {M : Type 1} → statement M
 fat-kept-spec =

@@ -5,9 +5,9 @@ use mathlib.Core.List.{List}
 use native.Mathlib.Omega.{arith}
 use lib.ListN.{length, get_or}
 use Rattle.lists.specs.Lists.{every}
-use Rattle.sectors.specs.Sectors.{entryIn}
-use Rattle.sectors.proofs.Laws.{scaled, lent-sector}
-use Rattle.compare.specs.Compare.{entryKept}
+use Rattle.sectors.specs.Sectors.{entry_in}
+use Rattle.sectors.proofs.Laws.{scaled, lent_sector}
+use Rattle.compare.specs.Compare.{entry_kept}
 use borrow.Author.Rules.{rules}
 use Rattle.compare.proofs.strict.sector_kept.Statement.{statement}
 use Rattle.compare.proofs.strict.sector_kept.Tie as tie
@@ -36,7 +36,7 @@ entries-kept-requires c κs = search rules
 returns : tie.Need-returns
 returns c =
     let a = c.before.before.before.before.args in
-    c.entries-kept.ensures ∙ ap (λ (l : List ℕ). every (length a.fat.now) (λ j. entryKept a.limit (entryIn l j) (get_or a.fat.now j 0))) (lent-sector a.s a.id a.image.now)
+    c.entries-kept.ensures ∙ ap (λ (l : List ℕ). every (length a.fat.now) (λ j. entry_kept a.limit (entry_in l j) (get_or a.fat.now j 0))) (lent_sector a.s a.id a.image.now)
 
 pub sector-kept-spec : {M : Type 1} → statement M
 sector-kept-spec =

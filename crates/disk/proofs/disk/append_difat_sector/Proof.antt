@@ -1,6 +1,6 @@
 -- Each store lies within the image, which keeps its length, and the stores one after another are the definition's.
 use mathlib.Core.Path.{◌∙◌}
-use Rattle.disk.proofs.Growing.{one-new, one_entry, one_link, difat-appended}
+use Rattle.disk.proofs.Growing.{one_new, one_entry, one_link, difat_appended}
 use borrow.Author.Rules.{rules}
 use Rattle.disk.proofs.disk.append_difat_sector.Statement.{statement}
 use Rattle.disk.proofs.disk.append_difat_sector.Tie as tie
@@ -22,7 +22,7 @@ cast-id : tie.Need-overflow-cast-id
 cast-id c = search rules
 
 init-at-requires : tie.Need-init-at-requires
-init-at-requires c κs = one-new _ _ _ _ c.before.before.before.before.before.requires.0
+init-at-requires c κs = one_new _ _ _ _ c.before.before.before.before.before.requires.0
 
 set-fat-requires : tie.Need-set-fat-requires
 set-fat-requires c κs = let m = c.before.before.before.before in one_entry _ _ _ _ (entry m).requires.0 _ m.init-at.auto.0
@@ -58,7 +58,7 @@ returns : tie.Need-returns
 returns c =
     let l = linked c in
     let t = marked l in
-    difat-appended _ _ _ _ _ _ _ _ _ _ _ _ (made t).init-at.ensures t.set-fat.ensures.0 t.set-fat.ensures.1 l.link-difat.ensures c.before.before.put-number.ensures
+    difat_appended _ _ _ _ _ _ _ _ _ _ _ _ (made t).init-at.ensures t.set-fat.ensures.0 t.set-fat.ensures.1 l.link-difat.ensures c.before.before.put-number.ensures
 
 pub append-difat-sector-spec : {M : Type 1} → statement M
 append-difat-sector-spec =

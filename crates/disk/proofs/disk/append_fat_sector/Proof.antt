@@ -1,6 +1,6 @@
 -- The sector's own entry stands in it; once it is marked there is room for its place, and the stores are the definition's.
 use native.Mathlib.Omega.{arith}
-use Rattle.disk.proofs.Growing.{full-new, full-listed, full-entry, fat-marked, fat-place, fat-appended}
+use Rattle.disk.proofs.Growing.{full_new, full_listed, full_entry, fat_marked_lem, fat_place, fat_appended}
 use borrow.Author.Rules.{rules}
 use Rattle.disk.proofs.disk.append_fat_sector.Statement.{statement}
 use Rattle.disk.proofs.disk.append_fat_sector.Tie as tie
@@ -22,16 +22,16 @@ cast-id : tie.Need-overflow-cast-id
 cast-id c = search rules
 
 init-at-requires : tie.Need-init-at-requires
-init-at-requires c κs = full-new _ _ _ c.before.before.before.before.before.requires
+init-at-requires c κs = full_new _ _ _ c.before.before.before.before.before.requires
 
 mul-fats : tie.Need-overflow-mul-fats
-mul-fats c = omega (arith, (full-listed _ _ _ (entry c.before.before).requires).1)
+mul-fats c = omega (arith, (full_listed _ _ _ (entry c.before.before).requires).1)
 
 slice-write-fats : tie.Need-slice-write-fats
-slice-write-fats c = (full-listed _ _ _ (entry c.before.before).requires).0
+slice-write-fats c = (full_listed _ _ _ (entry c.before.before).requires).0
 
 set-fat-requires : tie.Need-set-fat-requires
-set-fat-requires c κs = let m = c.before.before.before.before.before in full-entry _ _ _ (entry m).requires _ m.init-at.auto.0
+set-fat-requires c κs = let m = c.before.before.before.before.before in full_entry _ _ _ (entry m).requires _ m.init-at.auto.0
 
 add-list-place : tie.Need-overflow-add-list-place
 add-list-place c = search rules
@@ -39,13 +39,13 @@ add-list-place c = search rules
 list-place-requires : tie.Need-list-place-requires
 list-place-requires c κs =
     let t = c.before.before.before.before.before.before.before.before in
-    fat-place _ _ _ (entry (made t)).requires (fat-marked _ _ _ _ _ _ _ _ _ (made t).init-at.ensures t.set-fat.ensures.0 t.set-fat.ensures.1)
+    fat_place _ _ _ (entry (made t)).requires (fat_marked_lem _ _ _ _ _ _ _ _ _ (made t).init-at.ensures t.set-fat.ensures.0 t.set-fat.ensures.1)
 
 add-put-number : tie.Need-overflow-add-put-number
-add-put-number c = omega (arith, (full-listed _ _ _ (entry (made (marked c.before.before.before.before.before.before.before))).requires).1)
+add-put-number c = omega (arith, (full_listed _ _ _ (entry (made (marked c.before.before.before.before.before.before.before))).requires).1)
 
 cast-put-number : tie.Need-overflow-cast-put-number
-cast-put-number c = omega (arith, (full-listed _ _ _ (entry (made (marked c.before.before.before.before.before.before.before))).requires).1)
+cast-put-number c = omega (arith, (full_listed _ _ _ (entry (made (marked c.before.before.before.before.before.before.before))).requires).1)
 
 put-number-requires : tie.Need-put-number-requires
 put-number-requires c κs = search rules
@@ -66,7 +66,7 @@ returns : tie.Need-returns
 returns c =
     let l = c.before.before.before.before.before.before.before.before.before.before in
     let t = marked l in
-    fat-appended _ _ _ _ _ _ _ _ _ (fat-marked _ _ _ _ _ _ _ _ _ (made t).init-at.ensures t.set-fat.ensures.0 t.set-fat.ensures.1) l.list-place.ensures c.before.before.put-number.ensures
+    fat_appended _ _ _ _ _ _ _ _ _ (fat_marked_lem _ _ _ _ _ _ _ _ _ (made t).init-at.ensures t.set-fat.ensures.0 t.set-fat.ensures.1) l.list-place.ensures c.before.before.put-number.ensures
 
 pub append-fat-sector-spec : {M : Type 1} → statement M
 append-fat-sector-spec =

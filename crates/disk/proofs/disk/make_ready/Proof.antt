@@ -1,6 +1,6 @@
 -- The FAT is full where the sectors are a multiple of a sector's entries.
-use Rattle.disk.proofs.Fitting.{new-full}
-use Rattle.disk.proofs.Growing.{ready-there, ready_made}
+use Rattle.disk.proofs.Fitting.{new_full}
+use Rattle.disk.proofs.Growing.{ready_there, ready_made}
 use borrow.Author.Rules.{rules}
 use Rattle.disk.proofs.disk.make_ready.Statement.{statement}
 use Rattle.disk.proofs.disk.make_ready.Tie as tie
@@ -9,10 +9,10 @@ rem-if1 : tie.Need-nonzero-rem-if1
 rem-if1 c = search rules
 
 returns : tie.Need-returns
-returns c = ready-there _ _ c.if1.true
+returns c = ready_there _ _ c.if1.true
 
 append-fat-sector-requires : tie.Need-append-fat-sector-requires
-append-fat-sector-requires c κs = new-full _ _ _ c.before.before.before.before.before.before.before.before.before.requires c.before.before.before.before.if1.false
+append-fat-sector-requires c κs = new_full _ _ _ c.before.before.before.before.before.before.before.before.before.requires c.before.before.before.before.if1.false
 
 same_length : tie.Need-same-length
 same_length c = search rules

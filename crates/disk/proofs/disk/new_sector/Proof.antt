@@ -1,5 +1,5 @@
 -- What is ready has room for the sector's entry and its bytes.
-use Rattle.disk.proofs.Growing.{new-entry, new-bytes, new-made}
+use Rattle.disk.proofs.Growing.{new_entry, new_bytes, new_made}
 use borrow.Author.Rules.{rules}
 use Rattle.disk.proofs.disk.new_sector.Statement.{statement}
 use Rattle.disk.proofs.disk.new_sector.Tie as tie
@@ -15,10 +15,10 @@ make-ready-requires : tie.Need-make-ready-requires
 make-ready-requires c κs = search rules
 
 set-fat-requires : tie.Need-set-fat-requires
-set-fat-requires c κs = let m = c.before.before.before.before.before.before.before.before.before.before.before in new-entry _ _ _ _ (entry m).requires m.make-ready.ensures
+set-fat-requires c κs = let m = c.before.before.before.before.before.before.before.before.before.before.before in new_entry _ _ _ _ (entry m).requires m.make-ready.ensures
 
 init-at-requires : tie.Need-init-at-requires
-init-at-requires c κs = let t = c.before.before.before.before.before in let m = made t in new-bytes _ _ _ _ (entry m).pre m.make-ready.ensures _ t.set-fat.auto.0
+init-at-requires c κs = let t = c.before.before.before.before.before in let m = made t in new_bytes _ _ _ _ (entry m).pre m.make-ready.ensures _ t.set-fat.auto.0
 
 same_length : tie.Need-same-length
 same_length c = search rules
@@ -33,7 +33,7 @@ same-length-4 : tie.Need-same-length-4
 same-length-4 c = search rules
 
 returns : tie.Need-returns
-returns c = let t = c.before.before.before.before.before.before.before.before in new-made _ _ _ _ _ _ _ _ _ _ (made t).make-ready.ensures t.set-fat.ensures.0 t.set-fat.ensures.1 c.before.before.init-at.ensures
+returns c = let t = c.before.before.before.before.before.before.before.before in new_made _ _ _ _ _ _ _ _ _ _ (made t).make-ready.ensures t.set-fat.ensures.0 t.set-fat.ensures.1 c.before.before.init-at.ensures
 
 pub new-sector-spec : {M : Type 1} → statement M
 new-sector-spec =

@@ -2,7 +2,7 @@
 use Rattle.fat.proofs.Listing.{counts_same}
 use native.Mathlib.Omega.{arith}
 use borrow.Author.Tests.{eq-eqb, ne_eqb}
-use Rattle.fat.specs.Lists.{countsRight}
+use Rattle.fat.specs.Lists.{counts_right}
 use borrow.Author.Rules.{rules}
 use Rattle.fat.proofs.listed.counts_right.Statement.{statement}
 use Rattle.fat.proofs.listed.counts_right.Tie as tie
@@ -11,14 +11,14 @@ cast-if1 : tie.Need-overflow-cast-if1
 cast-if1 c = search rules
 
 returns : tie.Need-returns
-unfolding countsRight
+unfolding counts_right
 returns c = rw (ne_eqb _ _ c.if1.true)
 
 cast-if2 : tie.Need-overflow-cast-if2
 cast-if2 c = search rules
 
 returns-2 : tie.Need-returns-2
-unfolding countsRight
+unfolding counts_right
 returns-2 c = rw (eq-eqb _ _ c.before.before.if1.false, ne_eqb _ _ c.if2.true)
 
 ids-requires : tie.Need-ids-requires

@@ -3,7 +3,7 @@ use mathlib.Core.Path.{◌≡◌, sym, ◌∙◌}
 use lib.ListN.{length}
 use native.Mathlib.Omega.{arith}
 use borrow.Author.Tests.{not-true, not-false}
-use Rattle.fat.proofs.Listing.{fats-few, difats-few, places-ready, lists-not-counts, lists-not-chain, lists-load}
+use Rattle.fat.proofs.Listing.{fats_few, difats_few, places_ready, lists_not_counts, lists_not_chain, lists_load}
 use borrow.Author.Rules.{rules}
 use Rattle.fat.proofs.listed.load_lists.Statement.{statement}
 use Rattle.fat.proofs.listed.load_lists.Tie as tie
@@ -34,12 +34,12 @@ counts-right-requires c κs = search rules
 
 returns : tie.Need-returns
 returns c = let g = entry c.before in
-    lists-not-counts _ _ _ _ _ _ g.pre.0.fats g.pre.0.difats _ _ (sym c.before.counts-right.ensures ∙ not-true _ c.if1.true)
+    lists_not_counts _ _ _ _ _ _ g.pre.0.fats g.pre.0.difats _ _ (sym c.before.counts-right.ensures ∙ not-true _ c.if1.true)
 
 load-difats-requires : tie.Need-load-difats-requires
 load-difats-requires c κs =
     let g = entry (tested c) in
-    (g.pre.0.holds, (omega (arith, difats-few _ _ _ _ _ g.pre.0, g.pre.0.few), g.pre.1))
+    (g.pre.0.holds, (omega (arith, difats_few _ _ _ _ _ g.pre.0, g.pre.0.few), g.pre.1))
 
 same_length : tie.Need-same-length
 same_length c = search rules
@@ -51,7 +51,7 @@ returns-2 : tie.Need-returns-2
 returns-2 c =
     let l = c.before.before.before.before.before in
     let g = start l in
-    lists-not-chain _ _ _ _ _ _ g.pre.0.fats g.pre.0.difats _ _ _ l.load-difats.ensures (not-true _ c.if2.true)
+    lists_not_chain _ _ _ _ _ _ g.pre.0.fats g.pre.0.difats _ _ _ l.load-difats.ensures (not-true _ c.if2.true)
 
 slice-aggregate-load-fats : tie.Need-slice-aggregate-load-fats
 slice-aggregate-load-fats c = search rules
@@ -62,8 +62,8 @@ load-fats-requires c κs =
     let l = at-difats i in
     let g = start l in
     let kept = l.load-difats.kept.1.1.1.1 in (
-      places-ready _ _ _ _ _ _ _ _ _ _ g.pre.0 (entries-there c.before.before.before) kept.0 l.load-difats.ensures (not-false _ i.if2.left),
-      (omega (arith, fats-few _ _ _ _ _ g.pre.0, g.pre.0.few), omega (arith, kept.1.0, g.pre.1)),
+      places_ready _ _ _ _ _ _ _ _ _ _ g.pre.0 (entries-there c.before.before.before) kept.0 l.load-difats.ensures (not-false _ i.if2.left),
+      (omega (arith, fats_few _ _ _ _ _ g.pre.0, g.pre.0.few), omega (arith, kept.1.0, g.pre.1)),
     )
 
 same-length-3 : tie.Need-same-length-3
@@ -81,7 +81,7 @@ returns-3 c =
     let l = at-difats i in
     let t = tested l.before in
     let g = entry t in
-    lists-load _ _ _ _ _ _ g.pre.0.fats g.pre.0.difats _ _ _ _
+    lists_load _ _ _ _ _ _ g.pre.0.fats g.pre.0.difats _ _ _ _
     (sym t.counts-right.ensures ∙ not-false _ l.before.before.before.if1.left)
     l.load-difats.ensures (not-false _ i.if2.left) c.before.before.before.before.load-fats.ensures
 

@@ -4,17 +4,17 @@ use mathlib.Core.Path.{◌≡◌, refl}
 use native.Mathlib.Omega.{arith}
 use borrow.Author.Rules.{rules}
 use lib.ListN.{length, length-set}
-use Rattle.sectors.specs.Sectors.{perSector}
-use Rattle.sectors.proofs.Laws.{sector-within, last_within}
-use Rattle.fat.specs.Lists.{difatAt}
-use Rattle.fat.proofs.Loading.{Filling, filling-none, filling-more, chain_first, chain_next, chain-stops, chain-ends}
+use Rattle.sectors.specs.Sectors.{per_sector}
+use Rattle.sectors.proofs.Laws.{sector_within, last_within}
+use Rattle.fat.specs.Lists.{difat_at}
+use Rattle.fat.proofs.Loading.{Filling, filling_none, filling_more, chain_first, chain_next, chain_stops, chain_ends}
 use Rattle.fat.proofs.load.list_difats.Statement.{statement}
 use Rattle.fat.proofs.load.list_difats.Tie as tie
 
 abbrev invariant-loop : tie.invariant-loop
 invariant-loop image s n first difats₀ last id₀ j₀ difats id j =
-    (j ≤ length difats₀) × (last ≡ perSector s - 1) × (id < 2 ^ 32) × (id ≡ difatAt s image first j)
-    × Filling (difatAt s image first) n j difats₀ difats × (length difats ≡ length difats₀)
+    (j ≤ length difats₀) × (last ≡ per_sector s - 1) × (id < 2 ^ 32) × (id ≡ difat_at s image first j)
+    × Filling (difat_at s image first) n j difats₀ difats × (length difats ≡ length difats₀)
 
 abbrev decreases-loop : tie.decreases-loop
 decreases-loop image s n first difats₀ last id₀ j₀ difats id j = length difats₀ - j
@@ -28,7 +28,7 @@ entry c = c.before.before.before
 
 loop-holds : tie.Need-loop-init invariant-loop decreases-loop
 loop-holds c = let g = c.before.before in
-    (omega arith, refl, g.ranges.first.fits, chain_first g.args.s g.args.image.now g.args.first, filling-none _ _ _, refl)
+    (omega arith, refl, g.ranges.first.fits, chain_first g.args.s g.args.image.now g.args.first, filling_none _ _ _, refl)
 
 cast-at : tie.Need-overflow-cast-at invariant-loop decreases-loop
 cast-at c = omega arith
@@ -39,7 +39,7 @@ same_length c = omega arith
 returns : tie.Need-returns invariant-loop decreases-loop
 returns c = let l = c.before.before.loop in
     let g = entry c.before.before in
-    chain-stops g.args.s g.args.image.now g.args.n g.args.first (length g.args.difats.now) l.j l.difats (omega arith) (rw l.invariant.3 at c.if1.true)
+    chain_stops g.args.s g.args.image.now g.args.n g.args.first (length g.args.difats.now) l.j l.difats (omega arith) (rw l.invariant.3 at c.if1.true)
 
 mul-difats : tie.Need-overflow-mul-difats invariant-loop decreases-loop
 mul-difats c = omega arith
@@ -49,7 +49,7 @@ slice-write-difats c = omega arith
 
 entry-at-requires : tie.Need-entry-at-requires invariant-loop decreases-loop
 entry-at-requires c κs = let g = entry c.before.before in
-    (sector-within _ _ _ _ g.pre c.if1.false, last_within _ _ _ g.pre)
+    (sector_within _ _ _ _ g.pre c.if1.false, last_within _ _ _ g.pre)
 
 add-j : tie.Need-overflow-add-j invariant-loop decreases-loop
 add-j c = omega arith
@@ -64,7 +64,7 @@ loop-again c = let l = c.before.before.before.loop in
       l.invariant.1,
       omega arith,
       chain_next g.args.s g.args.image.now g.args.first l.j l.id _ l.invariant.3 c.entry_at.ensures,
-      filling-more _ _ l.j _ l.difats l.id l.invariant.4 (omega arith) l.invariant.3 c.before.if1.false,
+      filling_more _ _ l.j _ l.difats l.id l.invariant.4 (omega arith) l.invariant.3 c.before.if1.false,
       simp length-set (omega arith),
     )
 
@@ -76,7 +76,7 @@ same-length-2 c = omega arith
 
 returns-2 : tie.Need-returns-2 invariant-loop decreases-loop
 returns-2 c = let l = c.before.before.loop in
-    chain-ends _ _ _ _ l.j l.id _ l.difats _ l.invariant.4 (omega arith) l.invariant.3 c.ends.ensures
+    chain_ends _ _ _ _ l.j l.id _ l.difats _ l.invariant.4 (omega arith) l.invariant.3 c.ends.ensures
 
 pub list-difats-spec : {M : Type 1} → statement M
 list-difats-spec =

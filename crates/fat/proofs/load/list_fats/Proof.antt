@@ -3,13 +3,13 @@ use Prim.Native.Nat.{◌-◌, ◌≤◌}
 use mathlib.Core.Path.{◌≡◌, refl}
 use native.Mathlib.Omega.{arith}
 use lib.ListN.{length, length-set}
-use Rattle.fat.specs.Lists.{placeAt}
-use Rattle.fat.proofs.Loading.{Filling, filling-none, filling-more, places-stop, places-end, fewer-places}
+use Rattle.fat.specs.Lists.{place_at}
+use Rattle.fat.proofs.Loading.{Filling, filling_none, filling_more, places_stop, places_end, fewer_places}
 use Rattle.fat.proofs.load.list_fats.Statement.{statement}
 use Rattle.fat.proofs.load.list_fats.Tie as tie
 
 abbrev invariant-loop : tie.invariant-loop
-invariant-loop image s n list difats fats₀ p₀ fats p = (p ≤ length fats₀) × Filling (placeAt s image list difats) n p fats₀ fats × (length fats ≡ length fats₀)
+invariant-loop image s n list difats fats₀ p₀ fats p = (p ≤ length fats₀) × Filling (place_at s image list difats) n p fats₀ fats × (length fats ≡ length fats₀)
 
 abbrev decreases-loop : tie.decreases-loop
 decreases-loop image s n list difats fats₀ p₀ fats p = length fats₀ - p
@@ -19,11 +19,11 @@ abbrev entry : tie.At-loop invariant-loop decreases-loop → tie.Start invariant
 entry c = c.before.before.before.before.before
 
 loop-holds : tie.Need-loop-init invariant-loop decreases-loop
-loop-holds c = (omega arith, filling-none _ _ _, refl)
+loop-holds c = (omega arith, filling_none _ _ _, refl)
 
 place-at-requires : tie.Need-place-at-requires invariant-loop decreases-loop
 place-at-requires c κs = let g = entry c.before in
-    fewer-places _ _ _ _ _ _ _ g.pre (omega (arith, g.pre.there))
+    fewer_places _ _ _ _ _ _ _ g.pre (omega (arith, g.pre.there))
 
 cast-if1 : tie.Need-overflow-cast-if1 invariant-loop decreases-loop
 cast-if1 c = omega arith
@@ -34,7 +34,7 @@ same_length c = omega arith
 returns : tie.Need-returns invariant-loop decreases-loop
 returns c = let l = c.before.before.before.loop in
     let g = entry c.before.before.before in
-    places-stop _ _ _ _ _ (length g.args.fats.now) l.p _ (omega arith) (rw c.before.place_at.ensures at c.if1.true)
+    places_stop _ _ _ _ _ (length g.args.fats.now) l.p _ (omega arith) (rw c.before.place_at.ensures at c.if1.true)
 
 mul-fats : tie.Need-overflow-mul-fats invariant-loop decreases-loop
 mul-fats c = omega arith
@@ -50,7 +50,7 @@ loop-less c = omega arith
 
 loop-again : tie.Need-loop-preserved invariant-loop decreases-loop
 loop-again c = let l = c.before.before.before.loop in
-    (omega arith, filling-more _ _ l.p _ l.fats _ l.invariant.1 (omega arith) c.before.place_at.ensures c.if1.false, simp length-set (omega arith))
+    (omega arith, filling_more _ _ l.p _ l.fats _ l.invariant.1 (omega arith) c.before.place_at.ensures c.if1.false, simp length-set (omega arith))
 
 same-length-2 : tie.Need-same-length-2 invariant-loop decreases-loop
 same-length-2 c = omega arith
@@ -58,7 +58,7 @@ same-length-2 c = omega arith
 returns-2 : tie.Need-returns-2 invariant-loop decreases-loop
 returns-2 c = let l = c.before.loop in
     let g = entry c.before in
-    places-end _ _ _ _ _ l.p g.args.fats.now _ l.invariant.1 (omega arith)
+    places_end _ _ _ _ _ l.p g.args.fats.now _ l.invariant.1 (omega arith)
 
 pub list-fats-spec : {M : Type 1} → statement M
 list-fats-spec =

@@ -4,15 +4,15 @@ use mathlib.Core.Path.{◌≡◌, refl, ◌∙◌, ap}
 use native.Mathlib.Omega.{arith}
 use borrow.Author.Rules.{rules}
 use lib.ListN.{length, get_or, length-take}
-use Rattle.sectors.specs.Sectors.{perSector}
-use Rattle.sectors.proofs.Laws.{sector-within}
+use Rattle.sectors.specs.Sectors.{per_sector}
+use Rattle.sectors.proofs.Laws.{sector_within}
 use Rattle.fat.proofs.Differing.{below_at}
-use Rattle.fat.proofs.Loading.{Loaded, loaded-none, loaded-more, loaded-all, sector-begins}
+use Rattle.fat.proofs.Loading.{Loaded, loaded_none, loaded_more, loaded_all, sector_begins}
 use Rattle.fat.proofs.load.load_fat.Statement.{statement}
 use Rattle.fat.proofs.load.load_fat.Tie as tie
 
 abbrev invariant-loop : tie.invariant-loop
-invariant-loop image s n fats fat₀ each p₀ fat p = (p ≤ length fats) × (each ≡ perSector s) × Loaded s image fats p fat₀ fat
+invariant-loop image s n fats fat₀ each p₀ fat p = (p ≤ length fats) × (each ≡ per_sector s) × Loaded s image fats p fat₀ fat
 
 abbrev decreases-loop : tie.decreases-loop
 decreases-loop image s n fats fat₀ each p₀ fat p = length fats - p
@@ -26,14 +26,14 @@ abbrev at_turn : tie.After-slice-known2 invariant-loop decreases-loop → tie.In
 at_turn c = c.before.before.before.before.before.before
 
 -- sector p begins among the entries, and is below n
-begins : (c : tie.In-loop invariant-loop decreases-loop) → c.before.loop.p * perSector (entry c.before).args.s < length (entry c.before).args.fat.now
-begins c = sector-begins _ _ _ _ c.loop-test.true (entry c.before).pre.last
+begins : (c : tie.In-loop invariant-loop decreases-loop) → c.before.loop.p * per_sector (entry c.before).args.s < length (entry c.before).args.fat.now
+begins c = sector_begins _ _ _ _ c.loop-test.true (entry c.before).pre.last
 
 at-id : (c : tie.In-loop invariant-loop decreases-loop) → get_or (entry c.before).args.fats.now c.before.loop.p 0 < (entry c.before).args.n
 at-id c = below_at _ _ (entry c.before).pre.below _ c.loop-test.true
 
 loop-holds : tie.Need-loop-init invariant-loop decreases-loop
-loop-holds c = (omega arith, refl, loaded-none _ _ _ _)
+loop-holds c = (omega arith, refl, loaded_none _ _ _ _)
 
 mul-a : tie.Need-overflow-mul-a invariant-loop decreases-loop
 mul-a c = omega (arith, begins c)
@@ -67,7 +67,7 @@ part-load-at-end c = omega (arith, c.before.before.before.loop.invariant.2.same,
 
 load-at-requires : tie.Need-load-at-requires invariant-loop decreases-loop
 load-at-requires c κs = let g = entry c.before.before.before.before in (
-  sector-within _ _ _ _ g.pre.holds (at-id c.before.before.before),
+  sector_within _ _ _ _ g.pre.holds (at-id c.before.before.before),
   (omega (arith, g.pre.holds.two), simp length-take (omega (arith, g.pre.holds.entries, c.before.before.lesser.ensures))),
 )
 
@@ -81,7 +81,7 @@ loop-again : tie.Need-loop-preserved invariant-loop decreases-loop
 loop-again c = let turn = at_turn c in
     let l = turn.before.loop in
     let end = c.before.before.before.before.before.lesser.ensures.2 ∙ ap (min _) l.inv.2.same in
-    (omega arith, l.inv.1, loaded-more _ _ _ l.p _ _ l.fat _ l.inv.2 (begins turn) end c.before.before.load_at.ensures)
+    (omega arith, l.inv.1, loaded_more _ _ _ l.p _ _ l.fat _ l.inv.2 (begins turn) end c.before.before.load_at.ensures)
 
 same_length : tie.Need-same-length invariant-loop decreases-loop
 same_length c = omega (arith, c.before.loop.invariant.2.same)
@@ -90,7 +90,7 @@ returns : tie.Need-returns invariant-loop decreases-loop
 returns c = let l = c.before.loop in
     let g = entry c.before in
     let e : l.p ≡ length g.args.fats.now = omega arith in
-    loaded-all _ _ _ l.p _ _ l.invariant.2 (rw e g.pre.enough)
+    loaded_all _ _ _ l.p _ _ l.invariant.2 (rw e g.pre.enough)
 
 pub load-fat-spec : {M : Type 1} → statement M
 load-fat-spec =

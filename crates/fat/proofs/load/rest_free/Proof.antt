@@ -6,18 +6,18 @@ use borrow.Author.Rules.{rules}
 use lib.Dec.{eqb}
 use lib.ListN.{length}
 use Rattle.lists.specs.Lists.{every}
-use Rattle.consts.specs.Consts.{freeSector}
-use Rattle.sectors.specs.Sectors.{perSector}
-use Rattle.fat.specs.Lists.{placeAt, restFree}
+use Rattle.consts.specs.Consts.{free_sector}
+use Rattle.sectors.specs.Sectors.{per_sector}
+use Rattle.fat.specs.Lists.{place_at, rest_free}
 use Rattle.fat.proofs.Differing.{compared}
-use Rattle.fat.proofs.Loading.{fewer-places}
+use Rattle.fat.proofs.Loading.{fewer_places}
 use Rattle.fat.proofs.load.rest_free.Statement.{statement}
 use Rattle.fat.proofs.load.rest_free.Tie as tie
 
 abbrev invariant-loop : tie.invariant-loop
 invariant-loop image s n list difats k over count free₀ j₀ free j =
-    (over ≡ k - 109) × (count ≡ length difats * (perSector s - 1) - (k - 109)) × (j ≤ count)
-    × (free ≡ every j (λ i. eqb (placeAt s image list difats (109 + (k - 109) + i)) freeSector))
+    (over ≡ k - 109) × (count ≡ length difats * (per_sector s - 1) - (k - 109)) × (j ≤ count)
+    × (free ≡ every j (λ i. eqb (place_at s image list difats (109 + (k - 109) + i)) free_sector))
 
 abbrev decreases-loop : tie.decreases-loop
 decreases-loop image s n list difats k over count free₀ j₀ free j = count - j
@@ -54,7 +54,7 @@ add-place-at-2 c = omega (arith, (entry c.before).pre.small)
 
 place-at-requires : tie.Need-place-at-requires invariant-loop decreases-loop
 place-at-requires c κs = let g = entry c.before in
-    fewer-places _ _ _ _ _ _ _ g.pre (omega (arith, g.pre.there))
+    fewer_places _ _ _ _ _ _ _ g.pre (omega (arith, g.pre.there))
 
 add-j : tie.Need-overflow-add-j invariant-loop decreases-loop
 add-j c = omega arith
@@ -65,19 +65,19 @@ loop-less c = omega arith
 loop-again : tie.Need-loop-preserved invariant-loop decreases-loop
 loop-again c = let l = c.before.before.before.loop in
     let g = entry c.before.before.before in
-    let at : ℕ → ℕ = placeAt g.args.s g.args.image.now g.args.list.now g.args.difats.now in
+    let at : ℕ → ℕ = place_at g.args.s g.args.image.now g.args.list.now g.args.difats.now in
     let read = past at _ _ _ l.j c.before.place_at.ensures l.invariant.0 in (
       l.invariant.0,
       l.invariant.1,
       omega arith,
-      compared (λ i. at (109 + (g.args.k - 109) + i)) (λ i. freeSector) _ _ _ _ read l.invariant.3 c.if1.branch (λ w. (w.0.taken, w.1)) (λ w. (w.0.left, w.1)),
+      compared (λ i. at (109 + (g.args.k - 109) + i)) (λ i. free_sector) _ _ _ _ read l.invariant.3 c.if1.branch (λ w. (w.0.taken, w.1)) (λ w. (w.0.left, w.1)),
     )
 
 returns : tie.Need-returns invariant-loop decreases-loop
-unfolding restFree
+unfolding rest_free
 returns c = let l = c.before.loop in
     let g = entry c.before in
-    let e : l.j ≡ length g.args.difats.now * (perSector g.args.s - 1) - (g.args.k - 109) = omega arith in
+    let e : l.j ≡ length g.args.difats.now * (per_sector g.args.s - 1) - (g.args.k - 109) = omega arith in
     rw e at l.invariant.3
 
 pub rest-free-spec : {M : Type 1} → statement M

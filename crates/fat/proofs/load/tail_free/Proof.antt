@@ -3,23 +3,23 @@ use Prim.Native.Nat.{ℕ, ◌+◌, ◌-◌, ◌*◌, ◌≤◌, ◌<◌}
 use mathlib.Core.Path.{◌∙◌}
 use native.Mathlib.Omega.{arith}
 use lib.ListN.{length, get_or}
-use Rattle.sectors.specs.Sectors.{perSector}
-use Rattle.sectors.proofs.Laws.{sector-within}
+use Rattle.sectors.specs.Sectors.{per_sector}
+use Rattle.sectors.proofs.Laws.{sector_within}
 use Rattle.fat.proofs.Differing.{below_at}
-use Rattle.fat.proofs.Loading.{sector-begins, sector-reaches, tail_none, tail-last}
+use Rattle.fat.proofs.Loading.{sector_begins, sector_reaches, tail_none, tail_last}
 use borrow.Author.Rules.{rules}
 use Rattle.fat.proofs.load.tail_free.Statement.{statement}
 use Rattle.fat.proofs.load.tail_free.Tie as tie
 
 -- the last sector begins below n, reaches to it, and is below n itself
 abbrev done : tie.Else1 → ℕ
-done c = (length c.before.before.before.args.fats.now - 1) * perSector c.before.before.before.args.s
+done c = (length c.before.before.before.args.fats.now - 1) * per_sector c.before.before.before.args.s
 
 begins : (c : tie.Else1) → done c < c.before.before.before.args.n
-begins c = sector-begins _ (length c.before.before.before.args.fats.now) _ _ (omega (arith, c.if1.false)) c.before.before.before.requires.last
+begins c = sector_begins _ (length c.before.before.before.args.fats.now) _ _ (omega (arith, c.if1.false)) c.before.before.before.requires.last
 
-reaches : (c : tie.Else1) → c.before.before.before.args.n ≤ done c + perSector c.before.before.before.args.s
-reaches c = sector-reaches (length c.before.before.before.args.fats.now) _ _ (omega (arith, c.if1.false)) c.before.before.before.requires.enough
+reaches : (c : tie.Else1) → c.before.before.before.args.n ≤ done c + per_sector c.before.before.before.args.s
+reaches c = sector_reaches (length c.before.before.before.args.fats.now) _ _ (omega (arith, c.if1.false)) c.before.before.before.requires.enough
 
 at-id : (c : tie.Else1) → get_or c.before.before.before.args.fats.now (length c.before.before.before.args.fats.now - 1) 0 < c.before.before.before.args.n
 at-id c = below_at _ _ c.before.before.before.requires.below _ (omega (arith, c.if1.false))
@@ -56,12 +56,12 @@ sub-free-at-2 c = omega (arith, reaches c.before)
 
 free-at-requires : tie.Need-free-at-requires
 free-at-requires c κs = let g = c.before.before.before.before in
-    (sector-within _ _ _ _ g.requires.holds (at-id c.before), (omega (arith, g.requires.holds.two), omega (arith, g.requires.holds.entries, begins c.before, reaches c.before)))
+    (sector_within _ _ _ _ g.requires.holds (at-id c.before), (omega (arith, g.requires.holds.two), omega (arith, g.requires.holds.entries, begins c.before, reaches c.before)))
 
 returns-2 : tie.Need-returns-2
 returns-2 c = let g = c.before.before.before.before.before in
-    c.free-at.ensures
-    ∙ tail-last g.args.s g.args.image.now g.args.fats.now g.args.n (length g.args.fats.now - 1)
+    c.free_at_lem.ensures
+    ∙ tail_last g.args.s g.args.image.now g.args.fats.now g.args.n (length g.args.fats.now - 1)
     (omega (arith, c.before.before.if1.false)) (omega (arith, begins c.before.before)) g.requires.enough
 
 pub tail-free-spec : {M : Type 1} → statement M

@@ -1,6 +1,6 @@
 -- `places::different` meets its contract: each stored place is one of its number, so all stand exactly where no number has two.
 use mathlib.Core.Path.{◌∙◌}
-use Rattle.fat.proofs.Differing.{below-kept, places-tell}
+use Rattle.fat.proofs.Differing.{below_kept, places_tell}
 use Rattle.fat.proofs.places.different.Statement.{statement}
 use Rattle.fat.proofs.places.different.Tie as tie
 
@@ -16,14 +16,14 @@ put-places-requires c κs = c.before.before.before.requires
 
 places-stand-requires : tie.Need-places-stand-requires
 places-stand-requires c κs = let g = entry (placed c) in
-    below-kept _ _ g.args.list.now (placed c).put-places.auto.1.0 g.pre.0
+    below_kept _ _ g.args.list.now (placed c).put-places.auto.1.0 g.pre.0
 
 same_length : tie.Need-same-length
 same_length c = (placed c.before).put-places.auto.1.0
 
 returns : tie.Need-returns
 returns c = let p = placed c.before in
-    c.places-stand.ensures ∙ places-tell (entry p).args.list.now p.put-places.last.1.0 p.put-places.ensures
+    c.places-stand.ensures ∙ places_tell (entry p).args.list.now p.put-places.last.1.0 p.put-places.ensures
 
 pub different-spec : {M : Type 1} → statement M
 different-spec = tie.close (tie.spec put-places-requires places-stand-requires same_length returns)

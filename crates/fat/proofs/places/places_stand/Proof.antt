@@ -5,12 +5,12 @@ use native.Mathlib.Omega.{arith}
 use borrow.Author.Rules.{rules}
 use lib.ListN.{length}
 use Rattle.lists.specs.Lists.{every}
-use Rattle.fat.proofs.Differing.{below-given, standsAt, listed-turn}
+use Rattle.fat.proofs.Differing.{below_given, stands_at, listed_turn}
 use Rattle.fat.proofs.places.places_stand.Statement.{statement}
 use Rattle.fat.proofs.places.places_stand.Tie as tie
 
 abbrev invariant-loop : tie.invariant-loop
-invariant-loop list scratch stand₀ j₀ stand j = (j ≤ length list) × (stand ≡ every j (standsAt list scratch))
+invariant-loop list scratch stand₀ j₀ stand j = (j ≤ length list) × (stand ≡ every j (stands_at list scratch))
 
 abbrev decreases-loop : tie.decreases-loop
 decreases-loop list scratch stand₀ j₀ stand j = length list - j
@@ -40,7 +40,7 @@ index-requires c κs = search rules
 within : (c : tie.After-index invariant-loop decreases-loop) → c.index.result < length (entry c.before.before.before).args.scratch.now
 within c = let l = c.before.before.before.loop in
     let g = entry c.before.before.before in
-    below-given (length g.args.scratch.now) (length g.args.scratch.now) g.args.list.now l.j c.index.result g.pre c.before.before.loop-test.true c.index.ensures refl
+    below_given (length g.args.scratch.now) (length g.args.scratch.now) g.args.list.now l.j c.index.result g.pre c.before.before.loop-test.true c.index.ensures refl
 
 mul-index-2 : tie.Need-overflow-mul-index-2 invariant-loop decreases-loop
 mul-index-2 c = omega (arith, within c)
@@ -63,7 +63,7 @@ loop-again c = let at = c.before.before.before.index in
     let turn = at_turn c in
     let a = (entry turn).args in (
       omega arith,
-      listed-turn a.scratch.now a.list.now (λ k. k) _ at.result stored.result _ _ at.ensures stored.ensures turn.loop.inv.1 c.if1.branch (λ w. (w.0.taken, w.1)) (λ w. (w.0.left, w.1)),
+      listed_turn a.scratch.now a.list.now (λ k. k) _ at.result stored.result _ _ at.ensures stored.ensures turn.loop.inv.1 c.if1.branch (λ w. (w.0.taken, w.1)) (λ w. (w.0.left, w.1)),
     )
 
 returns : tie.Need-returns invariant-loop decreases-loop

@@ -4,7 +4,7 @@ use mathlib.Core.Path.{◌≡◌, refl}
 use native.Mathlib.Omega.{arith}
 use borrow.Author.Rules.{rules}
 use lib.ListN.{length, length-set}
-use Rattle.fat.proofs.Differing.{Placed, below-given, placed-none, placed-more}
+use Rattle.fat.proofs.Differing.{Placed, below_given, placed_none, placed_more}
 use Rattle.fat.proofs.places.put_places.Statement.{statement}
 use Rattle.fat.proofs.places.put_places.Tie as tie
 
@@ -19,7 +19,7 @@ abbrev entry : tie.At-loop invariant-loop decreases-loop → tie.Start invariant
 entry c = c.before.before.before
 
 loop-holds : tie.Need-loop-init invariant-loop decreases-loop
-loop-holds c = (omega arith, placed-none c.before.before.args.list.now c.before.before.args.scratch.now, refl)
+loop-holds c = (omega arith, placed_none c.before.before.args.list.now c.before.before.args.scratch.now, refl)
 
 mul-index : tie.Need-overflow-mul-index invariant-loop decreases-loop
 mul-index c = search rules
@@ -37,7 +37,7 @@ cast-scratch c = omega (arith, (entry c.before.before.before).pre.1)
 within : (c : tie.After-index invariant-loop decreases-loop) → c.index.result < length c.before.before.before.loop.scratch
 within c = let l = c.before.before.before.loop in
     let g = entry c.before.before.before in
-    below-given (length g.args.scratch.now) (length l.scratch) g.args.list.now l.j c.index.result g.pre.0 c.before.before.loop-test.true c.index.ensures l.invariant.2
+    below_given (length g.args.scratch.now) (length l.scratch) g.args.list.now l.j c.index.result g.pre.0 c.before.before.loop-test.true c.index.ensures l.invariant.2
 
 mul-scratch : tie.Need-overflow-mul-scratch invariant-loop decreases-loop
 mul-scratch c = omega (arith, within c)
@@ -54,7 +54,7 @@ loop-less c = omega arith
 loop-again : tie.Need-loop-preserved invariant-loop decreases-loop
 loop-again c = let l = c.before.before.before.loop in
     let list = (entry c.before.before.before).args.list.now in
-    (omega arith, placed-more list l.scratch l.j c.index.result c.index.ensures (within c) l.invariant.1, simp length-set l.invariant.2)
+    (omega arith, placed_more list l.scratch l.j c.index.result c.index.ensures (within c) l.invariant.1, simp length-set l.invariant.2)
 
 same_length : tie.Need-same-length invariant-loop decreases-loop
 same_length c = omega arith

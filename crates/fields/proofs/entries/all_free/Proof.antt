@@ -6,13 +6,13 @@ use borrow.Author.Rules.{rules}
 use native.Mathlib.Omega.{arith}
 use lib.ListN.{length, drop}
 use Rattle.lists.specs.Lists.{both}
-use Rattle.fields.specs.Fields.{allFree}
-use Rattle.fields.proofs.Listed.{flag-free, flag-other, flag-end}
+use Rattle.fields.specs.Fields.{all_free}
+use Rattle.fields.proofs.Listed.{flag_free, flag_other, flag_end}
 use Rattle.fields.proofs.entries.all_free.Statement.{statement}
 use Rattle.fields.proofs.entries.all_free.Tie as tie
 
 abbrev invariant-loop : tie.invariant-loop
-invariant-loop list free₀ i₀ free i = (i ≤ length list) × (allFree list ≡ both free (allFree (drop i list)))
+invariant-loop list free₀ i₀ free i = (i ≤ length list) × (all_free list ≡ both free (all_free (drop i list)))
 
 abbrev decreases-loop : tie.decreases-loop
 decreases-loop list free₀ i₀ free i = length list - i
@@ -38,15 +38,15 @@ loop-again c = let l = c.before.before.before.loop in
     let h = c.before.before.loop-test.true in (
       omega arith,
       ⊎_elim
-          (λ w. flag-other xs l.i l.free c.if1.free h l.invariant.1 w.0.taken w.1)
-          (λ w. flag-free xs l.i l.free c.if1.free h l.invariant.1 w.0.left w.1)
+          (λ w. flag_other xs l.i l.free c.if1.free h l.invariant.1 w.0.taken w.1)
+          (λ w. flag_free xs l.i l.free c.if1.free h l.invariant.1 w.0.left w.1)
           c.if1.branch,
     )
 
 returns : tie.Need-returns invariant-loop decreases-loop
 returns c =
     let l = c.before.loop in
-    sym (l.invariant.1 ∙ flag-end _ l.i l.free c.loop-test.false)
+    sym (l.invariant.1 ∙ flag_end _ l.i l.free c.loop-test.false)
 
 pub all-free-spec : {M : Type 1} → statement M
 all-free-spec =

@@ -3,14 +3,14 @@ use Prim.Native.Nat.{◌≤◌}
 use mathlib.Core.Path.{◌∙◌}
 use native.Mathlib.Omega.{arith}
 use lib.ListN.{length}
-use Rattle.fields.proofs.Listed.{ids-within, rest-free}
+use Rattle.fields.proofs.Listed.{ids_within, rest_free_lem}
 use borrow.Author.Rules.{rules}
 use Rattle.fields.proofs.entries.ids_then_free.Statement.{statement}
 use Rattle.fields.proofs.entries.ids_then_free.Tie as tie
 
 -- the ids are within the list
 within : (c : tie.After-leading-ids) → c.leading-ids.result ≤ length c.before.before.args.list.now
-within c = rw c.leading-ids.ensures (ids-within c.before.before.args.list.now)
+within c = rw c.leading-ids.ensures (ids_within c.before.before.args.list.now)
 
 leading-ids-requires : tie.Need-leading-ids-requires
 leading-ids-requires c κs = search rules
@@ -31,7 +31,7 @@ all-free-requires : tie.Need-all-free-requires
 all-free-requires c κs = search rules
 
 returns : tie.Need-returns
-returns c = c.all-free.ensures ∙ rest-free _ _ c.before.before.leading-ids.ensures
+returns c = c.all-free.ensures ∙ rest_free_lem _ _ c.before.before.leading-ids.ensures
 
 pub ids-then-free-spec : {M : Type 1} → statement M
 ids-then-free-spec =

@@ -5,7 +5,7 @@ use borrow.Author.Rules.{rules}
 use native.Mathlib.Omega.{arith}
 use lib.ListN.{length, drop}
 use Rattle.fields.specs.Fields.{ids_in}
-use Rattle.fields.proofs.Listed.{ids_more, ids-stop, ids-end}
+use Rattle.fields.proofs.Listed.{ids_more, ids_stop, ids_end}
 use Rattle.fields.proofs.entries.leading_ids.Statement.{statement}
 use Rattle.fields.proofs.entries.leading_ids.Tie as tie
 
@@ -27,7 +27,7 @@ shared-slice-read-if1 c = omega arith
 returns : tie.Need-returns invariant-loop decreases-loop
 returns c =
     let l = c.before.before.before.loop in
-    omega (arith, ids-stop c.before.before.before.before.args.list.now l.i c.before.before.loop-test.true c.if1.true)
+    omega (arith, ids_stop c.before.before.before.before.args.list.now l.i c.before.before.loop-test.true c.if1.true)
 
 add-i : tie.Need-overflow-add-i invariant-loop decreases-loop
 add-i c = omega arith
@@ -43,7 +43,7 @@ loop-again c =
 returns-2 : tie.Need-returns-2 invariant-loop decreases-loop
 returns-2 c =
     let l = c.before.loop in
-    omega (arith, ids-end c.before.before.args.list.now l.i c.loop-test.false)
+    omega (arith, ids_end c.before.before.args.list.now l.i c.loop-test.false)
 
 pub leading-ids-spec : {M : Type 1} → statement M
 leading-ids-spec =

@@ -4,14 +4,14 @@ use mathlib.Core.Path.{◌≡◌, refl, ◌∙◌}
 use native.Mathlib.Omega.{arith}
 use lib.ListN.{length, take}
 use Rattle.lists.specs.Lists.{splice}
-use Rattle.fields.specs.Fields.{listBytes}
-use Rattle.fields.proofs.Listed.{entries_none, entries-more, entries-all}
+use Rattle.fields.specs.Fields.{list_bytes}
+use Rattle.fields.proofs.Listed.{entries_none, entries_more, entries_all}
 use borrow.Author.Rules.{rules}
 use Rattle.fields.proofs.entries.put_list.Statement.{statement}
 use Rattle.fields.proofs.entries.put_list.Tie as tie
 
 abbrev invariant-loop : tie.invariant-loop
-invariant-loop buf₀ list at i₀ buf i = (i ≤ 109) × (at ≡ 76) × (buf ≡ splice buf₀ 76 (listBytes (take i list))) × (length buf ≡ length buf₀)
+invariant-loop buf₀ list at i₀ buf i = (i ≤ 109) × (at ≡ 76) × (buf ≡ splice buf₀ 76 (list_bytes (take i list))) × (length buf ≡ length buf₀)
 
 abbrev decreases-loop : tie.decreases-loop
 decreases-loop buf₀ list at i₀ buf i = 109 - i
@@ -60,7 +60,7 @@ loop-again c =
     let g = entry begun in (
       omega arith,
       l.inv.1,
-      entries-more g.args.buf.now l.buf turn.new.0 76 _ g.args.list.now l.i (omega (arith, g.pre.1)) (omega (arith, g.pre)) l.inv.1 l.inv.2 turn.ensures,
+      entries_more g.args.buf.now l.buf turn.new.0 76 _ g.args.list.now l.i (omega (arith, g.pre.1)) (omega (arith, g.pre)) l.inv.1 l.inv.2 turn.ensures,
       turn.auto.0 ∙ l.inv.3,
     )
 
@@ -71,7 +71,7 @@ returns : tie.Need-returns invariant-loop decreases-loop
 returns c =
     let l = c.before.loop in
     let g = entry c.before in
-    entries-all g.args.buf.now l.buf 76 g.args.list.now l.i (omega (arith, g.pre.1)) l.invariant.2
+    entries_all g.args.buf.now l.buf 76 g.args.list.now l.i (omega (arith, g.pre.1)) l.invariant.2
 
 pub put-list-spec : {M : Type 1} → statement M
 put-list-spec =

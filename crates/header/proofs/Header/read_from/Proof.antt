@@ -9,12 +9,12 @@ use lib.ListN.{length}
 use Rattle.lists.specs.Lists.{part, same_list}
 use Rattle.lists.specs.Rows.{Row, refusal}
 use Rattle.consts.specs.Consts.{signature}
-use Rattle.fields.specs.Fields.{list_of, idsThenFree}
-use Rattle.header.specs.Read.{fixed_of, fixedRows, readNumber, headerOf}
+use Rattle.fields.specs.Fields.{list_of, ids_then_free}
+use Rattle.header.specs.Read.{fixed_of, fixed_rows, read_number, header_of}
 use Rattle.header.specs.declared.judge.Fixed.{Fixed}
 use Rattle.header.specs.declared.Header.{Header}
 use Rattle.header.specs.declared.ReadVerdict.TheVariants.{Short, Signature, Entries}
-use Rattle.header.proofs.Reading.{gives-1, gives-2, gives-fixed, gives-9, gives-0, says-no, says-yes}
+use Rattle.header.proofs.Reading.{gives_1, gives_2, gives_fixed, gives_9, gives_0, says_no, says_yes}
 use borrow.Author.Rules.{rules}
 use Rattle.header.proofs.Header.read_from.Statement.{statement}
 use Rattle.header.proofs.Header.read_from.Tie as tie
@@ -34,10 +34,10 @@ signed c = sym c.before.signed.ensures ∙ not-false _ c.if2.false
 
 -- what the judge says, and what it said where it refused nothing
 abbrev rows : tie.Else2 → List Row
-rows c = fixedRows (entry c).args.validation (fixed_of (bytes c))
+rows c = fixed_rows (entry c).args.validation (fixed_of (bytes c))
 
-judged : (c : tie.After-judge) → readNumber c.judge.result ≡ refusal (rows c.before.before)
-judged c = c.judge.ensures ∙ ap (λ (f : Fixed). refusal (fixedRows (entry c.before.before).args.validation f)) c.before.judged-by.ensures
+judged : (c : tie.After-judge) → read_number c.judge.result ≡ refusal (rows c.before.before)
+judged c = c.judge.ensures ∙ ap (λ (f : Fixed). refusal (fixed_rows (entry c.before.before).args.validation f)) c.before.judged-by.ensures
 
 abbrev at-signed : tie.Else3 → tie.Else2
 at-signed c = c.before.before.before.before
@@ -49,15 +49,15 @@ passed c = sym (sym c.before.number.ensures ∙ c.if3.false) ∙ judged c.before
 abbrev at-passed : tie.After-ids-then-free → tie.Else3
 at-passed c = c.before.before.before.before
 
-listed : (c : tie.After-ids-then-free) → c.ids-then-free.result ≡ idsThenFree (list_of (bytes (at-signed (at-passed c))))
-unfolding headerOf
-listed c = c.ids-then-free.ensures ∙ ap (λ (h : Header). idsThenFree h.list) c.before.before.before.content.ensures
+listed : (c : tie.After-ids-then-free) → c.ids-then-free.result ≡ ids_then_free (list_of (bytes (at-signed (at-passed c))))
+unfolding header_of
+listed c = c.ids-then-free.ensures ∙ ap (λ (h : Header). ids_then_free h.list) c.before.before.before.content.ensures
 
 refused-requires : tie.Need-refused-requires
 refused-requires c κs = search rules
 
 returns : tie.Need-returns
-returns c = says-no _ _ Short _ c.refused.ensures (omega arith) (gives-1 _ _ c.before.if1.true)
+returns c = says_no _ _ Short _ c.refused.ensures (omega arith) (gives_1 _ _ c.before.if1.true)
 
 signed-requires : tie.Need-signed-requires
 signed-requires c κs = search rules
@@ -67,8 +67,8 @@ refused-requires-2 c κs = search rules
 
 returns-2 : tie.Need-returns-2
 returns-2 c =
-    says-no _ _ Signature _ c.refused2.ensures (omega arith)
-    (gives-2 _ _ c.before.before.before.if1.false (sym c.before.before.signed.ensures ∙ not-true _ c.before.if2.true))
+    says_no _ _ Signature _ c.refused2.ensures (omega arith)
+    (gives_2 _ _ c.before.before.before.if1.false (sym c.before.before.signed.ensures ∙ not-true _ c.before.if2.true))
 
 judged-by-requires : tie.Need-judged-by-requires
 judged-by-requires c κs = search rules
@@ -85,8 +85,8 @@ refused-requires-3 c κs = search rules
 returns-3 : tie.Need-returns-3
 returns-3 c =
     let j = c.before.before.before in
-    let refuses : readNumber j.judge.result ≡ 0 → ⊥ = λ z. c.before.if3.true (c.before.before.number.ensures ∙ z) in
-    says-no _ _ j.judge.result _ c.refused3.ensures refuses (gives-fixed _ _ (whole j.before.before) (signed j.before.before) _ (judged j) refuses)
+    let refuses : read_number j.judge.result ≡ 0 → ⊥ = λ z. c.before.if3.true (c.before.before.number.ensures ∙ z) in
+    says_no _ _ j.judge.result _ c.refused3.ensures refuses (gives_fixed _ _ (whole j.before.before) (signed j.before.before) _ (judged j) refuses)
 
 content-requires : tie.Need-content-requires
 content-requires c κs = search rules
@@ -103,14 +103,14 @@ refused-requires-4 c κs = search rules
 returns-4 : tie.Need-returns-4
 returns-4 c =
     let p = at-passed c.before.before in
-    says-no _ _ Entries _ c.refused4.ensures (omega arith)
-    (gives-9 _ _ (whole (at-signed p)) (signed (at-signed p)) (passed p) (sym (listed c.before.before) ∙ not-true _ c.before.if4.true))
+    says_no _ _ Entries _ c.refused4.ensures (omega arith)
+    (gives_9 _ _ (whole (at-signed p)) (signed (at-signed p)) (passed p) (sym (listed c.before.before) ∙ not-true _ c.before.if4.true))
 
 returns-5 : tie.Need-returns-5
 returns-5 c =
     let p = at-passed c.before in
-    says-yes _ _ _ c.before.before.before.before.content.ensures
-    (gives-0 _ _ (whole (at-signed p)) (signed (at-signed p)) (passed p) (sym (listed c.before) ∙ not-false _ c.if4.false))
+    says_yes _ _ _ c.before.before.before.before.content.ensures
+    (gives_0 _ _ (whole (at-signed p)) (signed (at-signed p)) (passed p) (sym (listed c.before) ∙ not-false _ c.if4.false))
 
 pub read-from-spec : {M : Type 1} → statement M
 read-from-spec =

@@ -3,12 +3,12 @@ use mathlib.Core.Path.{◌≡◌, sym, ◌∙◌, ap}
 use Prim.Native.Nat.{ℕ}
 use lib.ListN.{length}
 use native.Mathlib.Omega.{arith}
-use Rattle.header.specs.Versions.{majorOf}
-use Rattle.header.specs.Read.{countsDirs}
+use Rattle.header.specs.Versions.{major_of}
+use Rattle.header.specs.Read.{counts_dirs}
 use Rattle.fields.specs.Fields.{unreadable}
 use Rattle.header.specs.declared.Validation.TheVariants.{Strict}
 use Rattle.header.specs.declared.WriteVerdict.TheVariants.{Short, Directories, Entries}
-use Rattle.header.proofs.Writing.{gives-1, gives-7, gives-9, gives-0, says-no, says-yes, header-stored}
+use Rattle.header.proofs.Writing.{gives_1, gives_7, gives_9, gives_0, says_no, says_yes, header_stored}
 use borrow.Author.Rules.{rules}
 use Rattle.header.proofs.Header.write_to.Statement.{statement}
 use Rattle.header.proofs.Header.write_to.Tie as tie
@@ -24,8 +24,8 @@ abbrev start : tie.After-list2 → tie.Start
 start c = entry (at-dirs c).before
 
 -- what the two looks at the header say
-counted : (c : tie.After-counts-dirs) → countsDirs Strict (majorOf (entry c).args.self.version) (entry c).args.self.dirs ≡ c.counts-dirs.result
-counted c = sym (c.counts-dirs.ensures ∙ ap (λ (k : ℕ). countsDirs Strict k (entry c).args.self.dirs) c.before.number.ensures)
+counted : (c : tie.After-counts-dirs) → counts_dirs Strict (major_of (entry c).args.self.version) (entry c).args.self.dirs ≡ c.counts-dirs.result
+counted c = sym (c.counts-dirs.ensures ∙ ap (λ (k : ℕ). counts_dirs Strict k (entry c).args.self.dirs) c.before.number.ensures)
 
 looked : (c : tie.After-unreadable) → unreadable (start c.before).args.self.list (start c.before).args.self.difat ≡ c.unreadable.result
 looked c = sym c.unreadable.ensures
@@ -48,7 +48,7 @@ abbrev at-looked : tie.After-slice-known4 → tie.After-unreadable
 at-looked c = (at-start c).before.before.before
 
 returns : tie.Need-returns
-returns c = says-no _ _ Short (omega arith) (gives-1 _ _ c.if1.true)
+returns c = says_no _ _ Short (omega arith) (gives_1 _ _ c.if1.true)
 
 number-requires : tie.Need-number-requires
 number-requires c κs = search rules
@@ -57,7 +57,7 @@ counts-dirs-requires : tie.Need-counts-dirs-requires
 counts-dirs-requires c κs = search rules
 
 returns-2 : tie.Need-returns-2
-returns-2 c = says-no _ _ Directories (omega arith) (gives-7 _ _ c.before.before.before.if1.false (counted c.before ∙ c.if2.true))
+returns-2 c = says_no _ _ Directories (omega arith) (gives_7 _ _ c.before.before.before.if1.false (counted c.before ∙ c.if2.true))
 
 slice-aggregate-unreadable : tie.Need-slice-aggregate-unreadable
 slice-aggregate-unreadable c = search rules
@@ -68,7 +68,7 @@ unreadable-requires c κs = search rules
 returns-3 : tie.Need-returns-3
 returns-3 c =
     let d = at-dirs c.before.before in
-    says-no _ _ Entries (omega arith) (gives-9 _ _ d.before.before.before.if1.left (counted d.before ∙ d.if2.left) (looked c.before ∙ c.if3.true))
+    says_no _ _ Entries (omega arith) (gives_9 _ _ d.before.before.before.if1.left (counted d.before ∙ d.if2.left) (looked c.before ∙ c.if3.true))
 
 put-start-requires : tie.Need-put-start-requires
 put-start-requires c κs = search rules
@@ -89,10 +89,10 @@ returns-4 : tie.Need-returns-4
 returns-4 c =
     let u = at-looked c in
     let d = at-dirs u.before in
-    says-yes _ _ _
-    (header-stored (start u.before).args.self _ _ _ _ d.before.before.before.if1.left (entries-there u.before)
+    says_yes _ _ _
+    (header_stored (start u.before).args.self _ _ _ _ d.before.before.before.if1.left (entries-there u.before)
     (at-start c).put-start.ensures (at-numbers c).put-numbers.ensures (at-list c).put-list.ensures)
-    (gives-0 _ _ d.before.before.before.if1.left (counted d.before ∙ d.if2.left)
+    (gives_0 _ _ d.before.before.before.if1.left (counted d.before ∙ d.if2.left)
     (looked u ∙ (at-start c).before.before.if3.false))
 
 pub write-to-spec : {M : Type 1} → statement M

@@ -1,10 +1,10 @@
 -- What the reader gives of a whole header is the number in each field, and the definition reads the same fields.
 use mathlib.Core.Path.{◌∙◌, ap}
-use Rattle.header.specs.Versions.{versionOf}
-use Rattle.header.specs.Read.{dirsOf, endIfFree, headerOf}
+use Rattle.header.specs.Versions.{version_of}
+use Rattle.header.specs.Read.{dirs_of, end_if_free, header_of}
 use borrow.Author.Rules.{rules}
 use Rattle.reader.specs.declared.Numbers.{Numbers}
-use Rattle.reader.proofs.Serving.{numbers-are}
+use Rattle.reader.proofs.Serving.{numbers_are}
 use Rattle.header.proofs.content.content.Statement.{statement}
 use Rattle.header.proofs.content.content.Tie as tie
 
@@ -28,18 +28,18 @@ end-if-free-requires : tie.Need-end-if-free-requires
 end-if-free-requires c κs = search rules
 
 returns : tie.Need-returns
-unfolding headerOf
+unfolding header_of
 returns c =
-    let read = (at_fields c).read-fields.ensures ∙ numbers-are _ (at_fields c).before.before.requires in
+    let read = (at_fields c).read-fields.ensures ∙ numbers_are _ (at_fields c).before.before.requires in
     λ i.
     record {
-      version = (c.before.before.version_of.ensures ∙ ap (λ (n : Numbers). versionOf n.major) read) i;
-      dirs = (c.before.dirs-of.ensures ∙ ap (λ (n : Numbers). dirsOf n.major n.dirs) read) i;
+      version = (c.before.before.version_of.ensures ∙ ap (λ (n : Numbers). version_of n.major) read) i;
+      dirs = (c.before.dirs-of.ensures ∙ ap (λ (n : Numbers). dirs_of n.major n.dirs) read) i;
       fats = (read i).fats;
       dir = (read i).dir;
       minifat = (read i).minifat;
       minifats = (read i).minifats;
-      difat = (c.end-if-free.ensures ∙ ap (λ (n : Numbers). endIfFree n.difat) read) i;
+      difat = (c.end-if-free.ensures ∙ ap (λ (n : Numbers). end_if_free n.difat) read) i;
       difats = (read i).difats;
       list = c.before.before.before.read-list.ensures i;
     }

@@ -1,15 +1,15 @@
 -- The test of the major version is the definition's own, on both sides.
 use borrow.Author.Tests.{eq-eqb, ne_eqb}
-use Rattle.header.specs.Read.{dirsOf}
+use Rattle.header.specs.Read.{dirs_of}
 use Rattle.header.proofs.content.dirs_of.Statement.{statement}
 use Rattle.header.proofs.content.dirs_of.Tie as tie
 
 returns : tie.Need-returns
-unfolding dirsOf
+unfolding dirs_of
 returns c = rw (eq-eqb _ _ c.if1.true)
 
 returns-2 : tie.Need-returns-2
-unfolding dirsOf
+unfolding dirs_of
 returns-2 c = rw (ne_eqb _ _ c.if1.false)
 
 pub dirs-of-spec : {M : Type 1} → statement M

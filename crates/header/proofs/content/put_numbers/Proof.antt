@@ -1,6 +1,6 @@
 -- Each of the nine stores begins where the one before it ends, so together they are one run of bytes.
 use mathlib.Core.Path.{refl}
-use Rattle.header.proofs.Writing.{numbers-stored}
+use Rattle.header.proofs.Writing.{numbers_stored}
 use native.Mathlib.Omega.{arith}
 use Rattle.header.proofs.content.put_numbers.Statement.{statement}
 use Rattle.header.proofs.content.put_numbers.Tie as tie
@@ -68,7 +68,7 @@ same_length c = omega arith
 
 returns : tie.Need-returns
 returns c =
-    numbers-stored (at_entry c).args.h _ _ _ _ _ _ _ _ _ _ (at_entry c).requires
+    numbers_stored (at_entry c).args.h _ _ _ _ _ _ _ _ _ _ (at_entry c).requires
     (at1 c).put-number.ensures (at2 c).put-number2.ensures (at3 c).put-number3.ensures (at4 c).put-number4.ensures (at5 c).put-number5.ensures
     (at6 c).put-number6.ensures (at7 c).put-number7.ensures (at8 c).put-number8.ensures (at9 c).put-number9.ensures
 

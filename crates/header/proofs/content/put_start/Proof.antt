@@ -1,6 +1,6 @@
 -- Each of the eight stores begins where the one before it ends, so together they are one run of bytes from 0 on.
 use mathlib.Core.Path.{refl}
-use Rattle.header.proofs.Writing.{start-stored}
+use Rattle.header.proofs.Writing.{start_stored}
 use native.Mathlib.Omega.{arith}
 use Rattle.header.proofs.content.put_start.Statement.{statement}
 use Rattle.header.proofs.content.put_start.Tie as tie
@@ -77,7 +77,7 @@ same_length c = omega arith
 
 returns : tie.Need-returns
 returns c =
-    start-stored (at_entry c).args.version (at4 c).before.number.result (at6 c).before.sector-shift.result _ _ _ _ _ _ _ _ _ (at_entry c).requires
+    start_stored (at_entry c).args.version (at4 c).before.number.result (at6 c).before.sector-shift.result _ _ _ _ _ _ _ _ _ (at_entry c).requires
     (at4 c).before.number.ensures (at6 c).before.sector-shift.ensures
     (at1 c).put-signature.ensures (at2 c).put-zeros.ensures (at3 c).put-number.ensures (at4 c).put-number2.ensures
     (at5 c).put-number3.ensures (at6 c).put-number4.ensures (at7 c).put-number5.ensures (at8 c).put-zeros2.ensures

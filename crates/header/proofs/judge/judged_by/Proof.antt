@@ -2,7 +2,7 @@
 use mathlib.Core.Path.{◌∙◌}
 use Rattle.header.specs.Read.{fixed_of}
 use borrow.Author.Rules.{rules}
-use Rattle.reader.proofs.Serving.{numbers-are}
+use Rattle.reader.proofs.Serving.{numbers_are}
 use Rattle.header.proofs.judge.judged_by.Statement.{statement}
 use Rattle.header.proofs.judge.judged_by.Tie as tie
 
@@ -12,7 +12,7 @@ read-fields-requires c κs = search rules
 returns : tie.Need-returns
 unfolding fixed_of
 returns c =
-    let read = c.read-fields.ensures ∙ numbers-are _ c.before.before.requires in
+    let read = c.read-fields.ensures ∙ numbers_are _ c.before.before.requires in
     λ i.
     record {
       order = (read i).order;

@@ -3,7 +3,7 @@ use Prim.Native.Nat.{ℕ, ◌-◌}
 use mathlib.Core.Path.{◌≡◌, ◌∙◌, sym, ap}
 use native.Mathlib.Omega.{arith}
 use lib.ListN.{length, length-replicate}
-use Rattle.judge.proofs.Judging.{Judging, judging-begun, judging-stops, judging-more, judging-ends}
+use Rattle.judge.proofs.Judging.{Judging, judging_begun, judging_stops, judging_more, judging_ends}
 use Rattle.judge.proofs.entries.judge.Statement.{statement}
 use Rattle.judge.proofs.entries.judge.Tie as tie
 
@@ -22,7 +22,7 @@ as_long : (c : tie.At-loop invariant-loop decreases-loop) → length c.loop.mark
 as_long c = c.loop.invariant.marked.long ∙ sym (ap length c.before.before.before.requires.1 ∙ length-replicate {A = ℕ} _ 0)
 
 loop-holds : tie.Need-loop-init invariant-loop decreases-loop
-loop-holds c = judging-begun _ _ _ c.before.before.requires.0 c.before.before.requires.1
+loop-holds c = judging_begun _ _ _ c.before.before.requires.0 c.before.before.requires.1
 
 judge-one-requires : tie.Need-judge-one-requires invariant-loop decreases-loop
 judge-one-requires c κs = omega (arith, as_long c.before.before.before)
@@ -40,7 +40,7 @@ same-length-2 c =
 returns : tie.Need-returns invariant-loop decreases-loop
 returns c =
     let call = c.before.before.before.before.before in
-    judging-stops (turn call).before.loop.invariant (turn call).loop-test.true call.judge-one.ensures c.if1.true
+    judging_stops (turn call).before.loop.invariant (turn call).loop-test.true call.judge-one.ensures c.if1.true
 
 add-i : tie.Need-overflow-add-i invariant-loop decreases-loop
 add-i c = omega arith
@@ -51,7 +51,7 @@ loop-less c = omega arith
 loop-again : tie.Need-loop-preserved invariant-loop decreases-loop
 loop-again c =
     let call = c.before.before.before.before.before in
-    judging-more (turn call).before.loop.invariant (turn call).loop-test.true call.judge-one.ensures c.if1.false
+    judging_more (turn call).before.loop.invariant (turn call).loop-test.true call.judge-one.ensures c.if1.false
 
 same-length-3 : tie.Need-same-length-3 invariant-loop decreases-loop
 same-length-3 c = c.before.loop.invariant.table.long
@@ -60,7 +60,7 @@ same-length-4 : tie.Need-same-length-4 invariant-loop decreases-loop
 same-length-4 c = as_long c.before
 
 returns-2 : tie.Need-returns-2 invariant-loop decreases-loop
-returns-2 c = judging-ends c.before.loop.invariant c.loop-test.false
+returns-2 c = judging_ends c.before.loop.invariant c.loop-test.false
 
 pub judge-spec : {M : Type 1} → statement M
 judge-spec =

@@ -1,5 +1,5 @@
 -- Each way out is one of the cases of an entry: reserved, special, past the end, pointing at a marked sector or at an unmarked one.
-use Rattle.judge.proofs.Judging.{one-reserved, one-special, one-past-strict, one-past, one-twice, one-first}
+use Rattle.judge.proofs.Judging.{one_reserved, one_special, one_past_strict, one_past, one_twice, one_first}
 use borrow.Author.Rules.{rules}
 use Rattle.judge.proofs.entries.judge_one.Statement.{statement}
 use Rattle.judge.proofs.entries.judge_one.Tie as tie
@@ -11,16 +11,16 @@ slice-read-e : tie.Need-slice-read-e
 slice-read-e c = search rules
 
 returns : tie.Need-returns
-returns c = one-reserved _ _ _ _ c.if1.true
+returns c = one_reserved _ _ _ _ c.if1.true
 
 returns-2 : tie.Need-returns-2
-returns-2 c = one-special _ _ _ _ c.before.if1.false c.if2.true
+returns-2 c = one_special _ _ _ _ c.before.if1.false c.if2.true
 
 cast_t : tie.Need-overflow-cast-t
 cast_t c = search rules
 
 returns-3 : tie.Need-returns-3
-returns-3 c = one-past-strict _ _ _ _ c.before.before.if2.false c.before.if3.true c.if4.true
+returns-3 c = one_past_strict _ _ _ _ c.before.before.if2.false c.before.if3.true c.if4.true
 
 mul-fat : tie.Need-overflow-mul-fat
 mul-fat c = search rules
@@ -32,13 +32,13 @@ same_length : tie.Need-same-length
 same_length c = search rules
 
 returns-4 : tie.Need-returns-4
-returns-4 c = one-past _ _ _ _ c.before.before.if2.false c.before.if3.true c.if4.false
+returns-4 c = one_past _ _ _ _ c.before.before.if2.false c.before.if3.true c.if4.false
 
 slice-read-if5 : tie.Need-slice-read-if5
 slice-read-if5 c = search rules
 
 returns-5 : tie.Need-returns-5
-returns-5 c = one-twice _ _ _ _ c.before.before.before.if2.false c.before.before.if3.false c.if5.true
+returns-5 c = one_twice _ _ _ _ c.before.before.before.if2.false c.before.before.if3.false c.if5.true
 
 slice-write-marks : tie.Need-slice-write-marks
 slice-write-marks c = search rules
@@ -47,7 +47,7 @@ same-length-2 : tie.Need-same-length-2
 same-length-2 c = search rules
 
 returns-6 : tie.Need-returns-6
-returns-6 c = one-first _ _ _ _ c.before.before.before.if2.false c.before.before.if3.false c.if5.false
+returns-6 c = one_first _ _ _ _ c.before.before.before.if2.false c.before.before.if3.false c.if5.false
 
 pub judge-one-spec : {M : Type 1} → statement M
 judge-one-spec =

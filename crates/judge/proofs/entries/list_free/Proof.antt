@@ -4,7 +4,7 @@ use mathlib.Core.Logic.{⊎_elim}
 use borrow.Author.Rules.{rules}
 use native.Mathlib.Omega.{arith}
 use lib.ListN.{length}
-use Rattle.judge.proofs.Judging.{Listing, listing-begun, listing-more, listing-same, listing-ends}
+use Rattle.judge.proofs.Judging.{Listing, listing_begun, listing_more, listing_same, listing_ends}
 use Rattle.judge.proofs.entries.list_free.Statement.{statement}
 use Rattle.judge.proofs.entries.list_free.Tie as tie
 
@@ -15,7 +15,7 @@ abbrev decreases-loop : tie.decreases-loop
 decreases-loop fat frees₀ count₀ i₀ frees count i = length fat - i
 
 loop-holds : tie.Need-loop-init invariant-loop decreases-loop
-loop-holds c = listing-begun _ _
+loop-holds c = listing_begun _ _
 
 mul-if1 : tie.Need-overflow-mul-if1 invariant-loop decreases-loop
 mul-if1 c = search rules
@@ -46,15 +46,15 @@ loop-again c =
     let top = c.before.before.before in
     let h = c.before.before.loop-test.true in
     ⊎_elim
-    (λ w. rw (w.1, w.2) (listing-more top.loop.invariant h top.before.requires.0 w.0.taken))
-    (λ w. rw (w.1, w.2) (listing-same top.loop.invariant h w.0.left))
+    (λ w. rw (w.1, w.2) (listing_more top.loop.invariant h top.before.requires.0 w.0.taken))
+    (λ w. rw (w.1, w.2) (listing_same top.loop.invariant h w.0.left))
     c.if1.branch
 
 same_length : tie.Need-same-length invariant-loop decreases-loop
 same_length c = c.before.loop.invariant.long
 
 returns : tie.Need-returns invariant-loop decreases-loop
-returns c = listing-ends c.before.loop.invariant c.loop-test.false
+returns c = listing_ends c.before.loop.invariant c.loop-test.false
 
 pub list-free-spec : {M : Type 1} → statement M
 list-free-spec =

@@ -5,8 +5,8 @@ use borrow.Author.Rules.{rules}
 use native.Mathlib.Omega.{arith}
 use lib.ListN.{length}
 use Rattle.lists.specs.Lists.{every}
-use Rattle.judge.specs.Judge.{noneDangles}
-use Rattle.judge.proofs.Judging.{sound, sound_more, length-marks}
+use Rattle.judge.specs.Judge.{none_dangles}
+use Rattle.judge.proofs.Judging.{sound, sound_more, length_marks}
 use Rattle.judge.proofs.entries.none_dangles.Statement.{statement}
 use Rattle.judge.proofs.entries.none_dangles.Tie as tie
 
@@ -27,7 +27,7 @@ shared-slice-read-fine : tie.Need-shared-slice-read-fine invariant-loop decrease
 shared-slice-read-fine c = omega arith
 
 shared-slice-read-fine-2 : tie.Need-shared-slice-read-fine-2 invariant-loop decreases-loop
-shared-slice-read-fine-2 c = omega (arith, length-marks _ _ _ c.before.before.before.before.requires)
+shared-slice-read-fine-2 c = omega (arith, length_marks _ _ _ c.before.before.before.before.requires)
 
 add-i : tie.Need-overflow-add-i invariant-loop decreases-loop
 add-i c = omega arith
@@ -41,7 +41,7 @@ loop-again c =
     (omega arith, sound_more _ _ _ _ _ top.before.requires c.before.before.loop-test.true top.loop.invariant.1)
 
 returns : tie.Need-returns invariant-loop decreases-loop
-unfolding noneDangles
+unfolding none_dangles
 returns c =
     let l = c.before.loop in
     let all : l.i ≡ length c.before.before.args.fat.now = omega arith in

@@ -5,11 +5,11 @@ use mathlib.Core.Bool.{false, not}
 use native.Mathlib.Omega.{arith}
 use lib.ListN.{replicate}
 use Rattle.lists.specs.Lists.{both}
-use Rattle.consts.specs.Consts.{difatSector, fatSector}
-use Rattle.judge.specs.Judge.{allMarked, markedFat}
+use Rattle.consts.specs.Consts.{difat_sector, fat_sector}
+use Rattle.judge.specs.Judge.{all_marked, marked_fat}
 use Rattle.judge.specs.Judged.{Judged}
 use borrow.Author.Tests.{not-true, not-false}
-use Rattle.judge.proofs.Rows.{judged-same, fat-14, fat-wrong, fat-marks, fat-18, fat-0}
+use Rattle.judge.proofs.Rows.{judged_same, fat_14, fat_wrong, fat_marks, fat_18, fat_0}
 use borrow.Author.Rules.{rules}
 use Rattle.judge.proofs.judged.judge_fat.Statement.{statement}
 use Rattle.judge.proofs.judged.judge_fat.Tie as tie
@@ -19,8 +19,8 @@ abbrev start : tie.Else1 → tie.Start
 start c = c.before.before.before.before.before.before.before
 
 none-lacks : (c : tie.Else1) → both (start c).args.strict (not (both
-    (allMarked (start c).args.fat.now (start c).args.difats.now difatSector)
-    (allMarked (start c).args.fat.now (start c).args.fats.now fatSector))) ≡ false
+    (all_marked (start c).args.fat.now (start c).args.difats.now difat_sector)
+    (all_marked (start c).args.fat.now (start c).args.fats.now fat_sector))) ≡ false
 none-lacks c = sym c.before.unmarked.ensures ∙ c.if1.false
 
 -- where the marked FAT was judged, and what the judging says of it
@@ -31,8 +31,8 @@ abbrev entry : tie.After-judge → tie.Start
 entry c = start (at_left c)
 
 judged : (c : tie.After-judge)
-    → Judged (entry c).args.strict (markedFat (entry c).args.fat.now (entry c).args.difats.now (entry c).args.fats.now) c.judge.result c.judge.new.1.0 c.judge.new.1.1.0
-judged c = judged-same _ _ _ _ _ _ c.before.before.before.before.before.set-listed.ensures c.judge.ensures
+    → Judged (entry c).args.strict (marked_fat (entry c).args.fat.now (entry c).args.difats.now (entry c).args.fats.now) c.judge.result c.judge.new.1.0 c.judge.new.1.1.0
+judged c = judged_same _ _ _ _ _ _ c.before.before.before.before.before.set-listed.ensures c.judge.ensures
 
 unmarked-requires : tie.Need-unmarked-requires
 unmarked-requires c κs = search rules
@@ -41,7 +41,7 @@ same_length : tie.Need-same-length
 same_length c = search rules
 
 returns : tie.Need-returns
-returns c = fat-14 _ _ _ _ _ _ (sym c.before.unmarked.ensures ∙ c.if1.true)
+returns c = fat_14 _ _ _ _ _ _ (sym c.before.unmarked.ensures ∙ c.if1.true)
 
 set-listed-requires : tie.Need-set-listed-requires
 set-listed-requires c κs = search rules
@@ -61,13 +61,13 @@ same-length-3 c = search rules
 returns-2 : tie.Need-returns-2
 returns-2 c =
     let j = c.before.before.before.before.before in
-    fat-wrong _ _ _ _ (none-lacks (at_left j)) _ _ _ (judged j) c.if2.true
+    fat_wrong _ _ _ _ (none-lacks (at_left j)) _ _ _ (judged j) c.if2.true
 
 none-dangles-requires : tie.Need-none-dangles-requires
 none-dangles-requires c κs =
     let i = c.before.before in
     let j = i.before.before.before.before.before in
-    fat-marks _ _ _ _ (none-lacks (at_left j)) _ _ _ (judged j) i.if2.false
+    fat_marks _ _ _ _ (none-lacks (at_left j)) _ _ _ (judged j) i.if2.false
 
 same-length-4 : tie.Need-same-length-4
 same-length-4 c = search rules
@@ -79,7 +79,7 @@ returns-3 : tie.Need-returns-3
 returns-3 c =
     let i = c.before.before.before.before in
     let j = i.before.before.before.before.before in
-    fat-18 _ _ _ _ (none-lacks (at_left j)) _ _ _ (judged j) i.if2.false _ c.before.none-dangles.ensures (not-true _ c.if3.true)
+    fat_18 _ _ _ _ (none-lacks (at_left j)) _ _ _ (judged j) i.if2.false _ c.before.none_dangles.ensures (not-true _ c.if3.true)
 
 same-length-6 : tie.Need-same-length-6
 same-length-6 c = search rules
@@ -91,7 +91,7 @@ returns-4 : tie.Need-returns-4
 returns-4 c =
     let i = c.before.before.before.before in
     let j = i.before.before.before.before.before in
-    fat-0 _ _ _ _ (none-lacks (at_left j)) _ _ _ (judged j) i.if2.false _ c.before.none-dangles.ensures (not-false _ c.if3.false)
+    fat_0 _ _ _ _ (none-lacks (at_left j)) _ _ _ (judged j) i.if2.false _ c.before.none_dangles.ensures (not-false _ c.if3.false)
 
 pub judge-fat-spec : {M : Type 1} → statement M
 judge-fat-spec =

@@ -6,8 +6,8 @@ use borrow.Author.Rules.{rules}
 use lib.Dec.{eqb}
 use lib.ListN.{length}
 use Rattle.lists.specs.Lists.{every}
-use Rattle.judge.specs.Judge.{allMarked}
-use Rattle.fat.proofs.Differing.{listed_at, below-given, listed-turn}
+use Rattle.judge.specs.Judge.{all_marked}
+use Rattle.fat.proofs.Differing.{listed_at, below_given, listed_turn}
 use Rattle.judge.proofs.marks.all_marked.Statement.{statement}
 use Rattle.judge.proofs.marks.all_marked.Tie as tie
 
@@ -38,7 +38,7 @@ index-requires c κs = search rules
 within : (c : tie.After-index invariant-loop decreases-loop) → c.index.result < length (entry c.before.before.before).args.fat.now
 within c = let l = c.before.before.before.loop in
     let g = entry c.before.before.before in
-    below-given (length g.args.fat.now) (length g.args.fat.now) g.args.ids.now l.j c.index.result g.pre c.before.before.loop-test.true c.index.ensures refl
+    below_given (length g.args.fat.now) (length g.args.fat.now) g.args.ids.now l.j c.index.result g.pre c.before.before.loop-test.true c.index.ensures refl
 
 mul-if1 : tie.Need-overflow-mul-if1 invariant-loop decreases-loop
 mul-if1 c = omega (arith, within c)
@@ -57,11 +57,11 @@ loop-again c = let at = c.before.before.index in
     let turn = c.before.before.before.before.before in
     let a = (entry turn).args in (
       omega arith,
-      listed-turn a.fat.now a.ids.now (λ k. a.v) _ at.result _ _ _ at.ensures refl turn.loop.invariant.1 c.if1.branch (λ w. (w.0.taken, w.1)) (λ w. (w.0.left, w.1)),
+      listed_turn a.fat.now a.ids.now (λ k. a.v) _ at.result _ _ _ at.ensures refl turn.loop.invariant.1 c.if1.branch (λ w. (w.0.taken, w.1)) (λ w. (w.0.left, w.1)),
     )
 
 returns : tie.Need-returns invariant-loop decreases-loop
-unfolding allMarked
+unfolding all_marked
 returns c = let l = c.before.loop in
     let e : l.j ≡ length (entry c.before).args.ids.now = omega arith in
     rw e at l.invariant.1

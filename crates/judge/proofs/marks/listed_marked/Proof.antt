@@ -2,7 +2,7 @@
 use mathlib.Core.Path.{◌∙◌, sym}
 use borrow.Author.Rules.{rules}
 use borrow.Author.Tests.{not-true, not-false}
-use Rattle.lists.proofs.Cases.{both-false-left, both-of-true}
+use Rattle.lists.proofs.Cases.{both_false_left, both_of_true}
 use Rattle.judge.proofs.marks.listed_marked.Statement.{statement}
 use Rattle.judge.proofs.marks.listed_marked.Tie as tie
 
@@ -10,13 +10,13 @@ all-marked-requires : tie.Need-all-marked-requires
 all-marked-requires c κs = search rules
 
 returns : tie.Need-returns
-returns c = sym (both-false-left _ _ (sym c.before.all-marked.ensures ∙ not-true _ c.if1.true))
+returns c = sym (both_false_left _ _ (sym c.before.all_marked_lem.ensures ∙ not-true _ c.if1.true))
 
 all-marked-requires-2 : tie.Need-all-marked-requires-2
 all-marked-requires-2 c κs = search rules
 
 returns-2 : tie.Need-returns-2
-returns-2 c = c.all-marked2.ensures ∙ sym (both-of-true _ _ (sym c.before.before.all-marked.ensures ∙ not-false _ c.before.if1.false))
+returns-2 c = c.all-marked2.ensures ∙ sym (both_of_true _ _ (sym c.before.before.all_marked_lem.ensures ∙ not-false _ c.before.if1.false))
 
 pub listed-marked-spec : {M : Type 1} → statement M
 listed-marked-spec =

@@ -4,14 +4,14 @@ use mathlib.Core.Path.{◌≡◌, refl}
 use native.Mathlib.Omega.{arith}
 use borrow.Author.Rules.{rules}
 use lib.ListN.{length, drop, length-set}
-use Rattle.judge.specs.Judge.{setAll}
-use Rattle.fat.proofs.Differing.{below-given}
-use Rattle.judge.proofs.Marking.{set-turn, set-end}
+use Rattle.judge.specs.Judge.{set_all}
+use Rattle.fat.proofs.Differing.{below_given}
+use Rattle.judge.proofs.Marking.{set_turn, set_end}
 use Rattle.judge.proofs.marks.set_all.Statement.{statement}
 use Rattle.judge.proofs.marks.set_all.Tie as tie
 
 abbrev invariant-loop : tie.invariant-loop
-invariant-loop fat₀ ids v j₀ fat j = (j ≤ length ids) × (setAll fat₀ ids v ≡ setAll fat (drop j ids) v) × (length fat ≡ length fat₀)
+invariant-loop fat₀ ids v j₀ fat j = (j ≤ length ids) × (set_all fat₀ ids v ≡ set_all fat (drop j ids) v) × (length fat ≡ length fat₀)
 
 abbrev decreases-loop : tie.decreases-loop
 decreases-loop fat₀ ids v j₀ fat j = length ids - j
@@ -36,7 +36,7 @@ index-requires c κs = search rules
 within : (c : tie.After-index invariant-loop decreases-loop) → c.index.result < length c.before.before.before.loop.fat
 within c = let l = c.before.before.before.loop in
     let g = entry c.before.before.before in
-    below-given (length g.args.fat.now) (length l.fat) g.args.ids.now l.j c.index.result g.pre c.before.before.loop-test.true c.index.ensures l.invariant.2
+    below_given (length g.args.fat.now) (length l.fat) g.args.ids.now l.j c.index.result g.pre c.before.before.loop-test.true c.index.ensures l.invariant.2
 
 mul-fat : tie.Need-overflow-mul-fat invariant-loop decreases-loop
 mul-fat c = omega (arith, within c)
@@ -52,14 +52,14 @@ loop-less c = omega arith
 
 loop-again : tie.Need-loop-preserved invariant-loop decreases-loop
 loop-again c = let l = c.before.before.before.loop in
-    (omega arith, set-turn _ l.fat _ _ l.j c.index.result c.before.before.loop-test.true c.index.ensures l.invariant.1, simp length-set l.invariant.2)
+    (omega arith, set_turn _ l.fat _ _ l.j c.index.result c.before.before.loop-test.true c.index.ensures l.invariant.1, simp length-set l.invariant.2)
 
 same_length : tie.Need-same-length invariant-loop decreases-loop
 same_length c = omega arith
 
 returns : tie.Need-returns invariant-loop decreases-loop
 returns c = let l = c.before.loop in
-    set-end _ l.fat _ _ l.j c.loop-test.false l.invariant.1
+    set_end _ l.fat _ _ l.j c.loop-test.false l.invariant.1
 
 pub set-all-spec : {M : Type 1} → statement M
 set-all-spec =

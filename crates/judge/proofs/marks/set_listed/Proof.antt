@@ -1,7 +1,7 @@
 -- `marks::set_listed` meets its contract: two calls, and the length stays.
 use mathlib.Core.Path.{◌∙◌}
-use Rattle.fat.proofs.Differing.{below-kept}
-use Rattle.judge.proofs.Marking.{markedFat-two}
+use Rattle.fat.proofs.Differing.{below_kept}
+use Rattle.judge.proofs.Marking.{markedFat_two}
 use Rattle.judge.proofs.marks.set_listed.Statement.{statement}
 use Rattle.judge.proofs.marks.set_listed.Tie as tie
 
@@ -17,7 +17,7 @@ set-all-requires c κs = c.before.before.before.before.requires.0
 
 set-all-requires-2 : tie.Need-set-all-requires-2
 set-all-requires-2 c κs = let g = entry (first c) in
-    below-kept _ _ g.args.fats.now (first c).set_all.auto.0 g.pre.1
+    below_kept _ _ g.args.fats.now (first c).set_all.auto.0 g.pre.1
 
 same_length : tie.Need-same-length
 same_length c = c.before.before.set-all2.auto.0 ∙ (first c.before.before.before).set_all.auto.0
@@ -25,7 +25,7 @@ same_length c = c.before.before.set-all2.auto.0 ∙ (first c.before.before.befor
 returns : tie.Need-returns
 returns c = let f = first c.before.before.before in
     let g = entry f in
-    markedFat-two g.args.fat.now _ _ g.args.difats.now g.args.fats.now f.set_all.ensures c.before.before.set-all2.ensures
+    markedFat_two g.args.fat.now _ _ g.args.difats.now g.args.fats.now f.set_all.ensures c.before.before.set-all2.ensures
 
 pub set-listed-spec : {M : Type 1} → statement M
 set-listed-spec = tie.close (tie.spec set-all-requires set-all-requires-2 same_length returns)

@@ -1,7 +1,7 @@
 -- A chain with fewer sectors than the edit asks for is extended, any other is cut to them; then its bytes are stored.
 use native.Mathlib.Omega.{arith}
-use Rattle.moves.proofs.Editing.{grown-fitted, cut-fitted, edit-asks, edit-small, edit-grow, edit-cut, edit-storable, edited-of}
-use Rattle.moves.proofs.Extending.{extended-at}
+use Rattle.moves.proofs.Editing.{grown_fitted, cut_fitted, edit_asks, edit_small, edit_grow, edit_cut, edit_storable, edited_of}
+use Rattle.moves.proofs.Extending.{extended_at}
 use borrow.Author.Rules.{rules}
 use Rattle.moves.proofs.change.change.Statement.{statement}
 use Rattle.moves.proofs.change.change.Tie as tie
@@ -23,19 +23,19 @@ abbrev cut : tie.After-store-arg4 → tie.After-shrink
 cut c = c.before.before.before.before.before.before.before.before.before.before.before.before
 
 need-of-requires : tie.Need-need-of-requires
-need-of-requires c κs = edit-asks _ _ _ _ _ c.before.before.before.before.before.before.before.before.requires
+need-of-requires c κs = edit_asks _ _ _ _ _ c.before.before.before.before.before.before.before.before.requires
 
 sub-extend-by : tie.Need-overflow-sub-extend-by
 sub-extend-by c = search rules
 
 extend-by-requires : tie.Need-extend-by-requires
-extend-by-requires c κs = let k = more c in edit-grow _ _ _ _ _ (begun k.before).requires _ k.before.need-of.ensures
+extend-by-requires c κs = let k = more c in edit_grow _ _ _ _ _ (begun k.before).requires _ k.before.need-of.ensures
 
 store-requires : tie.Need-store-requires
 store-requires c κs =
     let g = grown c in
     let k = more g.before in
-    edit-storable _ _ _ _ _ (begun k.before).requires _ k.before.need-of.ensures _ (grown-fitted _ _ _ k.if1.taken _ _ (extended-at _ _ _ g.extend-by.ensures))
+    edit_storable _ _ _ _ _ (begun k.before).requires _ k.before.need-of.ensures _ (grown_fitted _ _ _ k.if1.taken _ _ (extended_at _ _ _ g.extend-by.ensures))
 
 same_length : tie.Need-same-length
 same_length c = search rules
@@ -62,19 +62,19 @@ returns : tie.Need-returns
 returns c =
     let g = grown c.before.before.before in
     let k = more g.before in
-    edited-of _ _ _ _ _ (begun k.before).requires _ k.before.need-of.ensures _ _ _ _ _ _ _ _ _ (grown-fitted _ _ _ k.if1.taken _ _ (extended-at _ _ _ g.extend-by.ensures)) _ c.before.before.store.ensures
+    edited_of _ _ _ _ _ (begun k.before).requires _ k.before.need-of.ensures _ _ _ _ _ _ _ _ _ (grown_fitted _ _ _ k.if1.taken _ _ (extended_at _ _ _ g.extend-by.ensures)) _ c.before.before.store.ensures
 
 shrink-requires : tie.Need-shrink-requires
-shrink-requires c κs = let k = fewer c in (_, edit-cut _ _ _ _ _ (begun k.before).requires _ k.before.need-of.ensures k.if1.left)
+shrink-requires c κs = let k = fewer c in (_, edit_cut _ _ _ _ _ (begun k.before).requires _ k.before.need-of.ensures k.if1.left)
 
 store-requires-2 : tie.Need-store-requires-2
 store-requires-2 c κs =
     let g = cut c in
     let k = fewer g.before in
-    edit-storable _ _ _ _ _ (begun k.before).requires _ k.before.need-of.ensures _ (cut-fitted _ _ _ k.if1.left _ (g.shrink.ensures _))
+    edit_storable _ _ _ _ _ (begun k.before).requires _ k.before.need-of.ensures _ (cut_fitted _ _ _ k.if1.left _ (g.shrink.ensures _))
 
 add-t55 : tie.Need-overflow-add-t55
-add-t55 c = let k = fewer (cut c.before.before.before).before in omega (arith, edit-small _ _ _ _ _ (begun k.before).requires)
+add-t55 c = let k = fewer (cut c.before.before.before).before in omega (arith, edit_small _ _ _ _ _ (begun k.before).requires)
 
 same-length-8 : tie.Need-same-length-8
 same-length-8 c = search rules
@@ -98,7 +98,7 @@ returns-2 : tie.Need-returns-2
 returns-2 c =
     let g = cut c.before.before.before in
     let k = fewer g.before in
-    edited-of _ _ _ _ _ (begun k.before).requires _ k.before.need-of.ensures _ _ _ _ _ _ _ _ _ (cut-fitted _ _ _ k.if1.left _ (g.shrink.ensures _)) _ c.before.before.store2.ensures
+    edited_of _ _ _ _ _ (begun k.before).requires _ k.before.need-of.ensures _ _ _ _ _ _ _ _ _ (cut_fitted _ _ _ k.if1.left _ (g.shrink.ensures _)) _ c.before.before.store2.ensures
 
 pub change-spec : {M : Type 1} → statement M
 change-spec =

@@ -1,6 +1,6 @@
 -- What lies past the place is filled with zeros; at the end there is nothing to fill.
 use borrow.Author.Rules.{rules}
-use Rattle.moves.proofs.Zeros.{zeroed-past, zeroed-none}
+use Rattle.moves.proofs.Zeros.{zeroed_past, zeroed_none}
 use Rattle.moves.proofs.change.zero_from.Statement.{statement}
 use Rattle.moves.proofs.change.zero_from.Tie as tie
 
@@ -23,10 +23,10 @@ same_length : tie.Need-same-length
 same_length c = search rules
 
 returns : tie.Need-returns
-returns c = zeroed-past _ _ _ c.before.before.before.before.if1.true c.before.before.fill32.ensures
+returns c = zeroed_past _ _ _ c.before.before.before.before.if1.true c.before.before.fill32.ensures
 
 returns-2 : tie.Need-returns-2
-returns-2 c = zeroed-none _ _ c.if1.false
+returns-2 c = zeroed_none _ _ c.if1.false
 
 pub zero-from-spec : {M : Type 1} → statement M
 zero-from-spec =

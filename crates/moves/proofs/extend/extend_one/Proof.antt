@@ -1,6 +1,6 @@
 -- The sector that is taken is linked behind the last one, then listed.
 use native.Mathlib.Omega.{arith}
-use Rattle.hand.proofs.Linking.{more-stock, more-link, more-place, more-small, extended-of}
+use Rattle.hand.proofs.Linking.{more_stock, more_link, more_place, more_small, extended_of}
 use Rattle.moves.proofs.Extending.{at_count}
 use borrow.Author.Rules.{rules}
 use Rattle.moves.proofs.extend.extend_one.Statement.{statement}
@@ -17,21 +17,21 @@ abbrev entry : tie.After-take-sector-id-arg5 → tie.Start
 entry c = c.before.before.before.before.before.before.before.before.before.before.before.before
 
 take-sector-id-requires : tie.Need-take-sector-id-requires
-take-sector-id-requires c κs = more-stock {m = 0} (entry c).requires
+take-sector-id-requires c κs = more_stock {m = 0} (entry c).requires
 
 link-last-requires : tie.Need-link-last-requires
 link-last-requires c κs = let t = taken c in
     let e = entry t.before in
-    more-link {m = 0} e.pre _ (t.take-sector-id.ensures e.args.marks.now).1
+    more_link {m = 0} e.pre _ (t.take-sector-id.ensures e.args.marks.now).1
 
 mul-ids : tie.Need-overflow-mul-ids
-mul-ids c = omega (arith, more-small {m = 0} (entry (taken (linked c).before).before).requires)
+mul-ids c = omega (arith, more_small {m = 0} (entry (taken (linked c).before).before).requires)
 
 slice-write-ids : tie.Need-slice-write-ids
-slice-write-ids c = more-place {m = 0} (entry (taken (linked c).before).before).requires
+slice-write-ids c = more_place {m = 0} (entry (taken (linked c).before).before).requires
 
 add-t36 : tie.Need-overflow-add-t36
-add-t36 c = omega (arith, more-small {m = 0} (entry (taken (linked c).before).before).requires)
+add-t36 c = omega (arith, more_small {m = 0} (entry (taken (linked c).before).before).requires)
 
 same_length : tie.Need-same-length
 same_length c = search rules
@@ -56,7 +56,7 @@ same-length-7 c = search rules
 
 returns : tie.Need-returns
 returns c = let l = linked c in
-    at_count _ (omega arith) (extended-of _ _ _ _ _ _ _ ((taken l.before).take-sector-id.ensures _) (l.link-last.ensures _ _ _))
+    at_count _ (omega arith) (extended_of _ _ _ _ _ _ _ ((taken l.before).take-sector-id.ensures _) (l.link-last.ensures _ _ _))
 
 pub extend-one-spec : {M : Type 1} → statement M
 extend-one-spec =

@@ -6,7 +6,7 @@ use lib.Dec.{ltb}
 use lib.ListN.{length, get_or}
 use Rattle.lists.specs.Lists.{every}
 use Rattle.fat.specs.Lists.{all_below}
-use Rattle.points.proofs.Testing.{flag-more}
+use Rattle.points.proofs.Testing.{flag_more}
 use borrow.Author.Rules.{rules}
 use Rattle.points.proofs.frees.all_below.Statement.{statement}
 use Rattle.points.proofs.frees.all_below.Tie as tie
@@ -34,7 +34,7 @@ loop-less : tie.Need-loop-smaller invariant-loop decreases-loop
 loop-less c = omega arith
 
 loop-again : tie.Need-loop-preserved invariant-loop decreases-loop
-loop-again c = (omega arith, flag-more _ _ _ _ c.before.before.loop.invariant.1 refl)
+loop-again c = (omega arith, flag_more _ _ _ _ c.before.before.loop.invariant.1 refl)
 
 returns : tie.Need-returns invariant-loop decreases-loop
 unfolding all_below

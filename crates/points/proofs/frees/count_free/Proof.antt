@@ -4,20 +4,20 @@ use mathlib.Core.Path.{◌≡◌, refl, ◌∙◌}
 use mathlib.Core.Logic.{⊎_elim}
 use native.Mathlib.Omega.{arith}
 use lib.ListN.{length}
-use Rattle.judge.specs.Judge.{freesOf, freesFrom}
+use Rattle.judge.specs.Judge.{frees_of, frees_from}
 use Rattle.points.proofs.Testing.{count_yes, count_no}
 use borrow.Author.Rules.{rules}
 use Rattle.points.proofs.frees.count_free.Statement.{statement}
 use Rattle.points.proofs.frees.count_free.Tie as tie
 
 abbrev invariant-loop : tie.invariant-loop
-invariant-loop fat count₀ i₀ count i = (i ≤ length fat) × (count ≤ i) × (count ≡ length (freesOf i fat))
+invariant-loop fat count₀ i₀ count i = (i ≤ length fat) × (count ≤ i) × (count ≡ length (frees_of i fat))
 
 abbrev decreases-loop : tie.decreases-loop
 decreases-loop fat count₀ i₀ count i = length fat - i
 
 loop-holds : tie.Need-loop-init invariant-loop decreases-loop
-unfolding freesOf freesFrom
+unfolding frees_of frees_from
 loop-holds c = (omega arith, omega arith, refl)
 
 mul-if1 : tie.Need-overflow-mul-if1 invariant-loop decreases-loop

@@ -3,7 +3,7 @@ use Prim.Native.Nat.{◌+◌}
 use mathlib.Core.Path.{refl}
 use native.Mathlib.Omega.{arith}
 use Rattle.points.specs.Parts.{Counting}
-use Rattle.points.proofs.Pointing.{counting-below, counting_more}
+use Rattle.points.proofs.Pointing.{counting_below, counting_more}
 use borrow.Author.Rules.{rules}
 use Rattle.points.proofs.points.count_four.Statement.{statement}
 use Rattle.points.proofs.points.count_four.Tie as tie
@@ -64,16 +64,16 @@ shared-slice-read-d : tie.Need-shared-slice-read-d
 shared-slice-read-d c = search rules
 
 count-pointer-requires : tie.Need-count-pointer-requires
-count-pointer-requires c κs = let g = start c in counting-below _ _ _ (omega (arith, g.pre.1)) g.pre.0
+count-pointer-requires c κs = let g = start c in counting_below _ _ _ (omega (arith, g.pre.1)) g.pre.0
 
 count-pointer-requires-2 : tie.Need-count-pointer-requires-2
-count-pointer-requires-2 c κs = let p = c.before.before.before in counting-below _ _ _ (omega (arith, (entry p).requires.1)) (one p)
+count-pointer-requires-2 c κs = let p = c.before.before.before in counting_below _ _ _ (omega (arith, (entry p).requires.1)) (one p)
 
 count-pointer-requires-3 : tie.Need-count-pointer-requires-3
-count-pointer-requires-3 c κs = let p = c.before.before.before in counting-below _ _ _ (omega (arith, (entry (first p)).requires.1)) (two p)
+count-pointer-requires-3 c κs = let p = c.before.before.before in counting_below _ _ _ (omega (arith, (entry (first p)).requires.1)) (two p)
 
 count-pointer-requires-4 : tie.Need-count-pointer-requires-4
-count-pointer-requires-4 c κs = let p = c.before.before.before in counting-below _ _ _ (omega (arith, (entry (first (second p))).requires.1)) (three p)
+count-pointer-requires-4 c κs = let p = c.before.before.before in counting_below _ _ _ (omega (arith, (entry (first (second p))).requires.1)) (three p)
 
 same_length : tie.Need-same-length
 same_length c = search rules

@@ -1,7 +1,7 @@
 -- An entry that points at a sector adds one to its count, any other leaves the counts alone.
 use mathlib.Core.Path.{refl}
 use native.Mathlib.Omega.{arith}
-use Rattle.points.proofs.Pointing.{counted-stored, counted-left}
+use Rattle.points.proofs.Pointing.{counted_stored, counted_left}
 use borrow.Author.Rules.{rules}
 use Rattle.points.proofs.points.count_pointer.Statement.{statement}
 use Rattle.points.proofs.points.count_pointer.Tie as tie
@@ -28,10 +28,10 @@ same_length : tie.Need-same-length
 same_length c = search rules
 
 returns : tie.Need-returns
-returns c = counted-stored _ _ _ _ _ c.before.before.index.ensures c.before.if1.true refl refl
+returns c = counted_stored _ _ _ _ _ c.before.before.index.ensures c.before.if1.true refl refl
 
 returns-2 : tie.Need-returns-2
-returns-2 c = counted-left _ _ _ _ c.before.index.ensures c.if1.false refl
+returns-2 c = counted_left _ _ _ _ c.before.index.ensures c.if1.false refl
 
 pub count-pointer-spec : {M : Type 1} → statement M
 count-pointer-spec =

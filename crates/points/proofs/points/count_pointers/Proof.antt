@@ -4,7 +4,7 @@ use mathlib.Core.Path.{◌≡◌, refl, sym, ◌∙◌}
 use native.Mathlib.Omega.{arith}
 use lib.ListN.{length}
 use Rattle.points.specs.Parts.{Counting}
-use Rattle.points.proofs.Pointing.{counting-none}
+use Rattle.points.proofs.Pointing.{counting_none}
 use borrow.Author.Rules.{rules}
 use Rattle.points.proofs.points.count_pointers.Statement.{statement}
 use Rattle.points.proofs.points.count_pointers.Tie as tie
@@ -26,7 +26,7 @@ loop-holds : tie.Need-loop-init invariant-loop decreases-loop
 loop-holds c =
     let g = c.before.before.before.before.before.before in
     let f = c.before.before.fill32 in
-    (omega arith, refl, counting-none _ _ _ g.requires.few f.ensures g.requires.each (f.auto.0 ∙ g.requires.each))
+    (omega arith, refl, counting_none _ _ _ g.requires.few f.ensures g.requires.each (f.auto.0 ∙ g.requires.each))
 
 mul-count-four : tie.Need-overflow-mul-count-four invariant-loop decreases-loop
 mul-count-four c = omega (arith, c.before.loop.invariant.1, (entry c.before).pre.few)

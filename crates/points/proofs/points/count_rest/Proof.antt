@@ -4,7 +4,7 @@ use mathlib.Core.Path.{refl, ◌∙◌, sym}
 use native.Mathlib.Omega.{arith}
 use lib.ListN.{length}
 use Rattle.points.specs.Parts.{Counting}
-use Rattle.points.proofs.Pointing.{counting-below, counting_more, counting-all}
+use Rattle.points.proofs.Pointing.{counting_below, counting_more, counting_all}
 use borrow.Author.Rules.{rules}
 use Rattle.points.proofs.points.count_rest.Statement.{statement}
 use Rattle.points.proofs.points.count_rest.Tie as tie
@@ -25,7 +25,7 @@ shared-slice-read-count-pointer : tie.Need-shared-slice-read-count-pointer invar
 shared-slice-read-count-pointer c = omega arith
 
 count-pointer-requires : tie.Need-count-pointer-requires invariant-loop decreases-loop
-count-pointer-requires c κs = counting-below _ _ _ c.before.before.loop-test.true c.before.before.before.loop.invariant.1
+count-pointer-requires c κs = counting_below _ _ _ c.before.before.loop-test.true c.before.before.before.loop.invariant.1
 
 add-j : tie.Need-overflow-add-j invariant-loop decreases-loop
 add-j c = omega arith
@@ -42,7 +42,7 @@ same_length : tie.Need-same-length invariant-loop decreases-loop
 same_length c = c.before.loop.invariant.1.long ∙ sym c.before.before.before.before.requires.0.long
 
 returns : tie.Need-returns invariant-loop decreases-loop
-returns c = counting-all _ _ _ c.loop-test.false c.before.loop.invariant.1
+returns c = counting_all _ _ _ c.loop-test.false c.before.loop.invariant.1
 
 pub count-rest-spec : {M : Type 1} → statement M
 count-rest-spec =

@@ -1,6 +1,6 @@
 -- The counts are those of the definition, so the sectors are right exactly when the entries and the marks are.
 use borrow.Author.Rules.{rules}
-use Rattle.points.proofs.Pointing.{counts-tell}
+use Rattle.points.proofs.Pointing.{counts_tell}
 use Rattle.points.proofs.points.points_right.Statement.{statement}
 use Rattle.points.proofs.points.points_right.Tie as tie
 
@@ -17,7 +17,7 @@ returns : tie.Need-returns
 returns c =
     let count = c.before.before.before.before in
     let g = count.before.before.before.before.before in
-    (counts-tell _ _ g.requires.1 _ _ count.count-pointers.ensures c.sectors-right.ensures, count.count-pointers.ensures)
+    (counts_tell _ _ g.requires.1 _ _ count.count-pointers.ensures c.sectors-right.ensures, count.count-pointers.ensures)
 
 pub points-right-spec : {M : Type 1} → statement M
 points-right-spec =

@@ -4,14 +4,14 @@ use mathlib.Core.Path.{◌≡◌, refl}
 use native.Mathlib.Omega.{arith}
 use lib.ListN.{length, get_or}
 use Rattle.lists.specs.Lists.{every}
-use Rattle.points.specs.Parts.{sectorRight}
-use Rattle.points.proofs.Testing.{flag-more}
+use Rattle.points.specs.Parts.{sector_right}
+use Rattle.points.proofs.Testing.{flag_more}
 use borrow.Author.Rules.{rules}
 use Rattle.points.proofs.points.sectors_right.Statement.{statement}
 use Rattle.points.proofs.points.sectors_right.Tie as tie
 
 abbrev invariant-loop : tie.invariant-loop
-invariant-loop fat counts marks right₀ i₀ right i = (i ≤ length fat) × (right ≡ every i (λ k. sectorRight (get_or fat k 0) (get_or counts k 0) (get_or marks k 0)))
+invariant-loop fat counts marks right₀ i₀ right i = (i ≤ length fat) × (right ≡ every i (λ k. sector_right (get_or fat k 0) (get_or counts k 0) (get_or marks k 0)))
 
 abbrev decreases-loop : tie.decreases-loop
 decreases-loop fat counts marks right₀ i₀ right i = length fat - i
@@ -49,7 +49,7 @@ loop-less : tie.Need-loop-smaller invariant-loop decreases-loop
 loop-less c = omega arith
 
 loop-again : tie.Need-loop-preserved invariant-loop decreases-loop
-loop-again c = (omega arith, flag-more _ _ _ _ c.before.before.before.before.before.loop.invariant.1 c.sector-right.ensures)
+loop-again c = (omega arith, flag_more _ _ _ _ c.before.before.before.before.before.loop.invariant.1 c.sector-right.ensures)
 
 returns : tie.Need-returns invariant-loop decreases-loop
 returns c =

@@ -45,7 +45,7 @@ use denote.Triple.Spec.{Meets, triple_of}
 use denote.Triple.Table.{entered, cited}
 use denote.Triple.Walked.{says, Stays, stay_ref, walk_of, Goes-ref, Walks, ends_at, walked, walk_Meets}
 use denote.Triple.Clauses.{ensured, lasts}
-use Rattle.reader.specs.Serve.{served_at, placeAfter}
+use Rattle.reader.specs.Serve.{served_at, place_after}
 use Rattle.reader.specs.declared.Reader.{Reader}
 use Rattle.reader.proofs.Serving.{steps}
 use Rattle.reader.specs.contracts.Reader as T
@@ -141,14 +141,14 @@ module _ {M : Type 1} {𝓤 : Ura M} (𝓛 : Logic 𝓤) (at_mem : Memory → SP
   goes_after : ent 𝓤 (sep 𝓤 (sem 𝓛 ftrue) (sem 𝓛 (owns (usize ∷ []) (h.at, tt) (vint w64 h.at ∷ [], tt)))) ((After 𝓛 at_mem run).pre to-after)
   goes_after = qed 𝓛 (‵ ftrue ∷ ‵ (owns (usize ∷ []) (h.at, tt) (vint w64 h.at ∷ [], tt)) ∷ []) ∵ join ! $ frame ! $ done !
 
-  after-said : (m : ℕ) → ent 𝓤 (ensured 𝓛 after.ended (after.clauses 𝓛 at_mem run) tt (h.at, tt) tt m) (fact 𝓤 (m ≡ placeAfter h.at))
-  after-said m = ex_e 𝓤 _ (λ ws. snd∗ 𝓤 (sem 𝓛 (lasts after.ended tt (h.at, tt) ws)) (fact 𝓤 (m ≡ placeAfter h.at)))
+  after-said : (m : ℕ) → ent 𝓤 (ensured 𝓛 after.ended (after.clauses 𝓛 at_mem run) tt (h.at, tt) tt m) (fact 𝓤 (m ≡ place_after h.at))
+  after-said m = ex_e 𝓤 _ (λ ws. snd∗ 𝓤 (sem 𝓛 (lasts after.ended tt (h.at, tt) ws)) (fact 𝓤 (m ≡ place_after h.at)))
 
   -- what the bytes own is kept, and the facts of the place are made anew
   again : (m : ℕ) → m < 2 ^ 64 → ent 𝓤 (sem 𝓛 Own) (sem 𝓛 ((B κ').own_val (at_place m) (T'.lowered (at_place m) ∷ [])))
   again m fits = qed 𝓛 (‵ Own ∷ []) ∵ owned ! usize (Is usize) (uint_Makes 𝓛 w64) m _ (refl, fits) $ move ! (1 ∷ 0 ∷ []) $ by ! (own_put 𝓛 D L 1 vh m mach)
 
-  exits : (r : ℕ) (u : Val) (m : ℕ) → r ≡ found → m ≡ placeAfter h.at
+  exits : (r : ℕ) (u : Val) (m : ℕ) → r ≡ found → m ≡ place_after h.at
       → ent 𝓤 (⋆ 𝓛 (‵ (fobs γ ((B κ').coded.code (at_place m))) ∷ ‵ (fbor κ (Body (mem (B κ')) b o γ)) ∷ ‵ (flft κ q) ∷ (‵ (flft κ' q') ⊛ ‵ ftrue) ∷ ‵ (u32.own_val r (u ∷ [])) ∷ [])) (Post u)
   exits r u m e e' =
       qed 𝓛 (‵ (fobs γ ((B κ').coded.code (at_place m))) ∷ ‵ (fbor κ (Body (mem (B κ')) b o γ)) ∷ ‵ (flft κ q) ∷ (‵ (flft κ' q') ⊛ ‵ ftrue) ∷ ‵ (u32.own_val r (u ∷ [])) ∷ []) ∵
@@ -188,7 +188,7 @@ module _ {M : Type 1} {𝓤 : Ura M} (𝓛 : Logic 𝓤) (at_mem : Memory → SP
         nothing ! $ owned ! usize (Is usize) (uint_Makes 𝓛 w64) h.at _ (refl, (typed was).1.1.0.fits) $ fjoin ! $ nothing ! $ use2 𝓛 (raw ((After 𝓛 at_mem run).pre to-after)) goes_after $
         calls_at ! fm (After 𝓛 at_mem run) known-after to-after (and_then ! (load ! (from ! (stop !)) (look ! 15 refl)) (no_more !)) (λ u'.
         use1 𝓛 (later (some (λ (m : ℕ). (‵ ftrue ⊛ ‵ (usize.own_val m (u' ∷ []))) ⊛ raw (ensured 𝓛 after.ended (after.clauses 𝓛 at_mem run) tt (h.at, tt) tt m)))) (id⊢ 𝓤 _) $ await ! tt $ pick ! (λ m.
-        split ! $ move ! (1 ∷ []) $ use1 𝓛 (raw (fact 𝓤 (m ≡ placeAfter h.at))) (after-said m) $ heard ! (m ≡ placeAfter h.at) (λ e'. split ! $ move ! (1 ∷ []) $
+        split ! $ move ! (1 ∷ []) $ use1 𝓛 (raw (fact 𝓤 (m ≡ place_after h.at))) (after-said m) $ heard ! (m ≡ place_after h.at) (λ e'. split ! $ move ! (1 ∷ []) $
         -- [the place; true; the number; 'a's token; what the reader owns; its cell; the open borrow; obs; auth; true; _5; …; _4; …; _3; …; _2; …; _1; …; room for _0; …]
         peeks ! usize (Is usize) (shows 𝓛 usize) m (u' ∷ []) (λ is'.
         land ! (from ! (stop !)) (init ! 10 refl ((uint_Lawful 𝓛 w64).typed m _ is').0) $ rewrite ! 10 (λ (w : Val). ‵ (fat full_share (ty_int w64) l₅ 0 w)) (ap only is'.0) refl $

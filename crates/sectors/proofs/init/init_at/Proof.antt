@@ -2,13 +2,13 @@
 use Prim.Native.Nat.{◌+◌}
 use native.Mathlib.Omega.{arith}
 use Rattle.sectors.proofs.Laws.{scaled}
-use Rattle.sectors.proofs.New.{init-part, init-length}
+use Rattle.sectors.proofs.New.{init_part, init_length}
 use borrow.Author.Rules.{rules}
 use Rattle.sectors.proofs.init.init_at.Statement.{statement}
 use Rattle.sectors.proofs.init.init_at.Tie as tie
 
 add_a : tie.Need-add-a
-add_a c = let a = c.before.args in omega (arith, scaled (a.id + 1) a.s (init-length _ c.before.pre.1.0 c.before.pre.1.1))
+add_a c = let a = c.before.args in omega (arith, scaled (a.id + 1) a.s (init_length _ c.before.pre.1.0 c.before.pre.1.1))
 
 mul-a : tie.Need-mul-a
 mul-a c = search rules
@@ -32,7 +32,7 @@ same_length : tie.Need-same-length
 same_length c = search rules
 
 returns : tie.Need-returns
-returns c = let g = c.before.before.before.before.before in init-part _ _ _ _ _ g.pre.1.0 g.pre.1.1 g.pre.0 c.before.before.init-sector.ensures
+returns c = let g = c.before.before.before.before.before in init_part _ _ _ _ _ g.pre.1.0 g.pre.1.1 g.pre.0 c.before.before.init-sector.ensures
 
 pub init-at-spec : {M : Type 1} → statement M
 init-at-spec =

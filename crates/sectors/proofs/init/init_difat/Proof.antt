@@ -1,7 +1,7 @@
 -- All bytes 255 are FREE entries, and END is stored over the last of them.
 use Prim.Native.Nat.{ℕ, ◌-◌, ◌/◌}
 use mathlib.Core.Path.{ap}
-use Rattle.sectors.proofs.New.{init-difat}
+use Rattle.sectors.proofs.New.{init_difat}
 use borrow.Author.Rules.{rules}
 use Rattle.sectors.proofs.init.init_difat.Statement.{statement}
 use Rattle.sectors.proofs.init.init_difat.Tie as tie
@@ -22,7 +22,7 @@ returns : tie.Need-returns
 returns c =
     let filled = c.before.before.before.before.before.before in
     let g = filled.before.before.before in
-    init-difat _ _ _ _ g.requires.0 g.requires.1 (ap (λ (n : ℕ). n / 4 - 1) filled.fill.auto.0) filled.fill.ensures c.before.before.put-entry.ensures
+    init_difat _ _ _ _ g.requires.0 g.requires.1 (ap (λ (n : ℕ). n / 4 - 1) filled.fill.auto.0) filled.fill.ensures c.before.before.put-entry.ensures
 
 pub init-difat-spec : {M : Type 1} → statement M
 init-difat-spec =

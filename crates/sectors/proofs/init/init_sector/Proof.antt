@@ -1,7 +1,7 @@
 -- Each kind of sector is what its own fill leaves.
 use mathlib.Core.Path.{◌∙◌, sym, ap}
-use Rattle.sectors.specs.Init.{initBytes}
-use Rattle.sectors.proofs.New.{init-zero, init-fat}
+use Rattle.sectors.specs.Init.{init_bytes}
+use Rattle.sectors.proofs.New.{init_zero, init_fat}
 use borrow.Author.Rules.{rules}
 use Rattle.sectors.proofs.init.init_sector.Statement.{statement}
 use Rattle.sectors.proofs.init.init_sector.Tie as tie
@@ -28,19 +28,19 @@ same_length : tie.Need-same-length
 same_length c = search rules
 
 returns : tie.Need-returns
-returns c = c.before.before.fill.ensures ∙ init-zero _ ∙ ap (initBytes _) (sym c.before.before.before.before.enum_told.given.1)
+returns c = c.before.before.fill.ensures ∙ init_zero _ ∙ ap (init_bytes _) (sym c.before.before.before.before.enum_told.given.1)
 
 same-length-2 : tie.Need-same-length-2
 same-length-2 c = search rules
 
 returns-2 : tie.Need-returns-2
-returns-2 c = c.before.before.fill2.ensures ∙ init-fat _ c.before.before.before.before.before.before.before.requires.0 ∙ ap (initBytes _) (sym c.before.before.before.before.enum-told2.given.1)
+returns-2 c = c.before.before.fill2.ensures ∙ init_fat _ c.before.before.before.before.before.before.before.requires.0 ∙ ap (init_bytes _) (sym c.before.before.before.before.enum-told2.given.1)
 
 same-length-3 : tie.Need-same-length-3
 same-length-3 c = search rules
 
 returns-3 : tie.Need-returns-3
-returns-3 c = c.before.before.init-difat.ensures ∙ ap (initBytes _) (sym c.before.before.before.before.enum-told3.given.1)
+returns-3 c = c.before.before.init_difat.ensures ∙ ap (init_bytes _) (sym c.before.before.before.before.enum-told3.given.1)
 
 pub init-sector-spec : {M : Type 1} → statement M
 init-sector-spec =

@@ -3,7 +3,7 @@ use Prim.Native.Nat.{◌+◌}
 use native.Mathlib.Omega.{arith}
 use Rattle.words.proofs.Laws.{length_digits}
 use Rattle.sectors.proofs.Laws.{scaled}
-use Rattle.sectors.proofs.New.{put-part}
+use Rattle.sectors.proofs.New.{put_part}
 use borrow.Author.Rules.{rules}
 use Rattle.sectors.proofs.init.put_at.Statement.{statement}
 use Rattle.sectors.proofs.init.put_at.Tie as tie
@@ -33,7 +33,7 @@ same_length : tie.Need-same-length
 same_length c = search rules
 
 returns : tie.Need-returns
-returns c = let g = c.before.before.before.before.before in put-part _ _ _ _ _ _ (omega (arith, length_digits 4 g.args.v, g.requires.1)) g.requires.0 c.before.before.put-entry.ensures
+returns c = let g = c.before.before.before.before.before in put_part _ _ _ _ _ _ (omega (arith, length_digits 4 g.args.v, g.requires.1)) g.requires.0 c.before.before.put-entry.ensures
 
 pub put-at-spec : {M : Type 1} → statement M
 put-at-spec =

@@ -1,5 +1,5 @@
 -- Each case has its three words.
-use Rattle.states.proofs.Telling.{words-done}
+use Rattle.states.proofs.Telling.{words_done}
 use borrow.Author.Rules.{rules}
 use Rattle.states.proofs.told.words_of_answer.Statement.{statement}
 use Rattle.states.proofs.told.words_of_answer.Tie as tie
@@ -14,7 +14,7 @@ enum_told : tie.Need-enum-told
 enum_told c = search rules
 
 returns : tie.Need-returns
-returns c = words-done c.before.answer.given.1
+returns c = words_done c.before.answer.given.1
 
 returns-2 : tie.Need-returns-2
 returns-2 c = search rules
