@@ -1,4 +1,6 @@
 // The readings, the writings and the short lists on the list that the program `replay` reads, each asked of the library again.
+#![tactic(auto)]
+
 ghost use Rattle.std.specs.Prelude.{◌≡◌, ℕ, ◌≤◌, true, length, take, slice_index};
 ghost use Rattle.header.specs.Write.{write_no};
 ghost use Rattle.answers.specs.Answers.{ReadAgrees, WriteAgrees, ListAgrees, LineAt, ListedAs, before, after as after_of};

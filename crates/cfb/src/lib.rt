@@ -1,4 +1,6 @@
 // The public face: an image is opened into a state and lent tables, and the state goes from call to call.
+#![tactic(auto)]
+
 mod calls;
 mod changes;
 

@@ -1,4 +1,6 @@
 // The bytes of a chain of sectors (document 01, Calls on a chain): the reading of them.
+#![tactic(auto)]
+
 ghost use Rattle.std.specs.Prelude.{◌≡◌, ◌+◌, ◌*◌, ◌≤◌, ◌<◌, length};
 ghost use Rattle.lists.specs.Lists.{part};
 ghost use Rattle.sectors.specs.Sectors.{start_of, sector_of};

@@ -1,4 +1,6 @@
 // Whether a FAT in memory is that of an image (document 01, refusals 14, 15 and 19). Strict compares it with the image's FAT sectors in place; permissive with a copy of them that is marked and forgiven.
+#![tactic(auto)]
+
 pub mod permissive;
 pub mod strict;
 

@@ -1,5 +1,7 @@
 // The functions that C and Rust call: each takes what it is lent apart, calls the proved library, and gives numbers.
 // None asks anything of its caller: every number and every slice has an answer.
+#![tactic(auto)]
+
 ghost use Rattle.std.specs.Prelude.{◌≡◌, length};
 ghost use Rattle.consts.specs.Kinds.{kind_of};
 ghost use Rattle.consts.specs.Pretty.{item_at};

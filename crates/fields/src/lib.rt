@@ -1,4 +1,6 @@
 // The table of the header's fields (MS-CFB 2.2), and the one way to read and to store each.
+#![tactic(auto)]
+
 pub mod entries;
 
 ghost use Rattle.std.specs.Prelude.{◌≡◌, true, ◌≤◌, ◌<◌, length, replicate};

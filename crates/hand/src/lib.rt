@@ -1,4 +1,6 @@
 // The moves on what is in hand: a sector taken, pointed at, linked, freed.
+#![tactic(auto)]
+
 ghost use Rattle.std.specs.Prelude.{◌≡◌, ℕ, ◌+◌, ◌*◌, ◌/◌, ◌≤◌, ◌<◌, List, length, get_or};
 ghost use Rattle.sectors.specs.Sectors.{start_of, per_sector};
 ghost use Rattle.fat.specs.Lists.{room_of};

@@ -1,5 +1,7 @@
 // The header of a compound file (MS-CFB 2.2): a reader and a writer that go by one table of fields.
 // Both answer for every slice and every number; each refusal has document 01's number.
+#![tactic(auto)]
+
 pub mod content;
 pub mod judge;
 

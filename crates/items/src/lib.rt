@@ -1,4 +1,6 @@
 // The numbers that stand for a kind of entry and for an item of the short list.
+#![tactic(auto)]
+
 ghost use Rattle.std.specs.Prelude.{◌≡◌};
 ghost use Rattle.items.specs.Items.{kind_number, sector_number, sector_first, sector_last, item_number, item_numbers, named_range, named_of, named_text};
 

@@ -1,4 +1,6 @@
 // A header as 117 words: the number of its version, its seven other numbers, and the 109 entries of its list.
+#![tactic(auto)]
+
 ghost use Rattle.std.specs.Prelude.{◌≡◌, ◌++◌, drop, replicate};
 ghost use Rattle.layout.specs.Layout.{mode_of, words_of, header_with};
 

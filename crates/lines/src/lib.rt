@@ -1,4 +1,6 @@
 // The lines of the listing of a FAT, put into a lent buffer one after the other.
+#![tactic(auto)]
+
 ghost use Rattle.std.specs.Prelude.{◌+◌, ◌*◌, ◌≤◌, length};
 ghost use Rattle.consts.specs.Pretty.{prettify_of};
 ghost use Rattle.texts.specs.Text.{decimal_of, Put};

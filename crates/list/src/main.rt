@@ -1,5 +1,7 @@
 // Lists the FAT of a compound file: reads at most 64 KiB from standard input, opens them strictly, and writes how many
 // sectors there are and how many are FREE, then the FAT as `prettify` lists it, one item a line; or why it is refused.
+#![tactic(auto)]
+
 ghost use Rattle.std.specs.Prelude.{◌≡◌, take};
 ghost use Rattle.listing.specs.Listing.{listing};
 

@@ -1,4 +1,6 @@
 // The listing of an image: its opening, taken apart, and the text of either answer.
+#![tactic(auto)]
+
 ghost use Rattle.std.specs.Prelude.{◌≤◌, length};
 ghost use Rattle.texts.specs.Text.{Put};
 ghost use Rattle.listing.specs.Listing.{listing};

@@ -1,5 +1,7 @@
 // The openings and the chains on the list that the program `replay` reads: the image that a record describes is made and opened,
 // and what came of it, or of a chain of it, compared.
+#![tactic(auto)]
+
 ghost use Rattle.std.specs.Prelude.{◌≡◌, true, ◌<◌, length, get_or};
 ghost use Rattle.alloc.specs.Opening.{Tables};
 ghost use Rattle.cfb.specs.Calls.{told_by};

@@ -1,5 +1,7 @@
 // A reader that holds a lent header and its place in the table of fields (MS-CFB 2.2). What it gives is had by functions
 // over a slice and a place, and a caller of `read_fields` sees no reader at all.
+#![tactic(auto)]
+
 ghost use Rattle.std.specs.Prelude.{◌≡◌};
 ghost use Rattle.fields.specs.Fields.{holds_number};
 ghost use Rattle.reader.specs.Serve.{served_at, place_after, stepped, numbers_of};

@@ -1,4 +1,6 @@
 // What a record of the list that the program `replay` reads holds, and the comparison of two headers.
+#![tactic(auto)]
+
 ghost use Rattle.std.specs.Prelude.{◌≡◌, true, ◌*◌, ◌≤◌, length};
 ghost use Rattle.records.specs.Records.{length_in, number_in, mode_in, numbers_in, header_in};
 

@@ -1,5 +1,7 @@
 // Replays a list of the Rust's answers with no Rust at hand: reads records of 1,024 bytes, has the library answer each again,
 // and says how many answers there are and which differ.
+#![tactic(auto)]
+
 ghost use Rattle.std.specs.Prelude.{◌≡◌, true};
 ghost use Rattle.replay.specs.Agrees.{Agrees, Replays};
 ghost use Rattle.replay.specs.declared.Replayed.TheVariants.{Same};

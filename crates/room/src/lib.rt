@@ -1,4 +1,6 @@
 // What a change needs, known before its first store (document 01, 24), for every length and offset, with no sum that can wrap.
+#![tactic(auto)]
+
 ghost use Rattle.std.specs.Prelude.{◌≡◌, ◌*◌, ◌≤◌, ◌<◌, leb};
 ghost use Rattle.fat.specs.Lists.{most, ceil as ceilOf};
 ghost use Rattle.room.specs.Needed.{resize_more, write_more};

@@ -1,4 +1,6 @@
 // Sectors of an image, each lent as a slice of its own, and the entries in them (MS-CFB 2.3, 2.5).
+#![tactic(auto)]
+
 pub mod init;
 
 ghost use Rattle.std.specs.Prelude.{◌≡◌, ◌+◌, ◌*◌, ◌≤◌, length};

@@ -1,4 +1,6 @@
 // A state as 121 words: its mode, used length, counts, and the 117 words of its header; and an answer as three (`told`).
+#![tactic(auto)]
+
 pub mod told;
 
 ghost use Rattle.std.specs.Prelude.{◌≤◌, ◌≡◌, ◌++◌, true, replicate, drop};

@@ -1,5 +1,7 @@
 // Stores into a chain's sectors (document 01, Calls on a chain): a write over its bytes, and zeros
 // up to the end of a sector. Each sector is lent as the part of the image that it is.
+#![tactic(auto)]
+
 ghost use Rattle.std.specs.Prelude.{◌≡◌, ◌+◌, ◌-◌, ◌≤◌, ◌<◌, length, replicate};
 ghost use Rattle.lists.specs.Lists.{splice};
 ghost use Rattle.sectors.specs.Sectors.{start_of};

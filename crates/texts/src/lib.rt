@@ -1,4 +1,6 @@
 // The text of an item of the short list as the Rust's `Debug` writes it, and the decimal digits of a number.
+#![tactic(auto)]
+
 ghost use Rattle.std.specs.Prelude.{◌≡◌, ◌+◌, ◌≤◌, length};
 ghost use Rattle.texts.specs.Text.{decimal_of, count_of, range_of, text_of, written, Put};
 

@@ -1,4 +1,6 @@
 // The walk of a chain over a table of numbers (document 01, Calls on a chain): the ids that it lists.
+#![tactic(auto)]
+
 ghost use Rattle.std.specs.Prelude.{◌≡◌, ◌≤◌};
 ghost use Rattle.consts.specs.Consts.{max_regular};
 ghost use Rattle.walk.specs.Walk.{leads as leadsOn};
