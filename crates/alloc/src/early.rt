@@ -11,7 +11,7 @@ use header::{Header, Validation, Version};
 pub const MOST: usize = 16384;
 
 // The number of the first cause, or 0 and then the sectors' length, how many they are, and the header.
-#[derive(Drop)]
+#[derive(Clone, Copy)]
 pub struct Early {
     pub no: u32,
     pub len: usize,

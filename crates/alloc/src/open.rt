@@ -60,7 +60,7 @@ pub(crate) fn fill_tables(
 }
 
 // The number of a loading, and how many sectors are FREE.
-#[derive(Drop)]
+#[derive(Clone, Copy)]
 pub struct Filled {
     pub no: u32,
     pub free: usize,
@@ -117,7 +117,7 @@ pub(crate) fn load_all(
 }
 
 // What an opening found: its number, how many sectors the image has, how many of them are FREE, and the header.
-#[derive(Drop)]
+#[derive(Clone, Copy)]
 pub struct Found {
     pub no: u32,
     pub sectors: usize,

@@ -77,7 +77,7 @@ pub fn same_write(case: &[u8]) -> bool
 }
 
 // Where a line ends that stands in the text, if it stands there.
-#[derive(Drop)]
+#[derive(Clone, Copy)]
 enum Line {
     Past(usize),
     Other,

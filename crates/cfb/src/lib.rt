@@ -17,7 +17,7 @@ use moves::change::{Edit, change as change_chain};
 use walk::Walked;
 
 // The answer of an opening: how many sectors the image has and how many of them are FREE, or the number of the refusal.
-#[derive(Drop)]
+#[derive(Clone, Copy)]
 pub enum Verdict {
     Accepted { sectors: usize, free: usize },
     Refused(u32),
@@ -39,7 +39,7 @@ impl Verdict {
 }
 
 // What is known of an open image besides its tables: the mode it was opened in, how many bytes are used, how many sectors there are and how many of them FREE, and the header.
-#[derive(Drop)]
+#[derive(Clone, Copy)]
 pub struct State {
     pub mode: Validation,
     pub used: usize,
@@ -49,14 +49,14 @@ pub struct State {
 }
 
 // An opening's answer, and the state beside it.
-#[derive(Drop)]
+#[derive(Clone, Copy)]
 pub struct Opened {
     pub verdict: Verdict,
     pub state: State,
 }
 
 // The answer of a call on a chain: how many sectors it has, where it starts, and how many bytes were read or written; or the number of the refusal.
-#[derive(Drop)]
+#[derive(Clone, Copy)]
 pub enum Answer {
     Done {
         ids: usize,
@@ -83,7 +83,7 @@ impl Answer {
 }
 
 // A call's answer, and the state after it.
-#[derive(Drop)]
+#[derive(Clone, Copy)]
 pub struct Called {
     pub answer: Answer,
     pub state: State,

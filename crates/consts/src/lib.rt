@@ -53,7 +53,7 @@ pub const END_OF_CHAIN: u32 = 0xffff_fffe;
 pub const FREE_SECTOR: u32 = 0xffff_ffff;
 
 // The header's and a directory entry's length in bytes, how many entries the header lists, a mini sector's length.
-#[derive(Drop)]
+#[derive(Clone, Copy)]
 pub struct Lengths {
     pub header: usize,
     pub entry: usize,
@@ -74,7 +74,7 @@ pub fn format_lengths() -> Lengths
 }
 
 // What an entry of the FAT can be.
-#[derive(Drop)]
+#[derive(Clone, Copy)]
 pub enum Kind {
     Regular,
     Reserved,
@@ -99,7 +99,7 @@ pub fn kind_of(entry: u32) -> Kind
 }
 
 // One item of the short list: so many FREE, FAT or DIFAT entries in a row, one END, or the numbers from the first to the second.
-#[derive(Drop)]
+#[derive(Clone, Copy)]
 pub enum Sector {
     Free(usize),
     End,
@@ -109,7 +109,7 @@ pub enum Sector {
 }
 
 // An item and the index past its entries, or none left.
-#[derive(Drop)]
+#[derive(Clone, Copy)]
 pub enum Item {
     Next(Sector, usize),
     Done,

@@ -10,7 +10,7 @@ ghost use Rattle.consts.specs.Consts.{signature};
 ghost use Rattle.fields.specs.Fields.{signature_at, offset_of, width_of, holds_number, number_at};
 
 // A field of the header: where it begins, and how many bytes it has.
-#[derive(Drop)]
+#[derive(Clone, Copy)]
 pub struct Field {
     pub at: usize,
     pub width: usize,

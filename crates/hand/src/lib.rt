@@ -44,7 +44,7 @@ pub fn point(
 }
 
 // What taking a sector gives: its id, how many sectors there are then, and how many of them are FREE.
-#[derive(Drop)]
+#[derive(Clone, Copy)]
 pub struct Taken {
     pub id: u32,
     pub sectors: usize,

@@ -8,7 +8,7 @@ use crate::{ReadVerdict, Validation, Version};
 use reader::read_fields;
 
 // The numbers that a header is judged by.
-#[derive(Drop)]
+#[derive(Clone, Copy)]
 pub struct Fixed {
     pub order: u32,
     pub major: u32,

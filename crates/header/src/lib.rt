@@ -17,7 +17,7 @@ use fields::signed;
 use judge::{counts_dirs, judge, judged_by};
 
 // The format's two versions (MS-CFB 2.2, Major Version).
-#[derive(Drop)]
+#[derive(Clone, Copy)]
 pub enum Version {
     // Sectors of 512 bytes.
     V3,
@@ -26,7 +26,7 @@ pub enum Version {
 }
 
 // The version that a number names, if one does.
-#[derive(Drop)]
+#[derive(Clone, Copy)]
 pub enum Numbered {
     Known(Version),
     Unknown,
@@ -76,7 +76,7 @@ impl Version {
 }
 
 // How much of the format an opening insists on.
-#[derive(Drop)]
+#[derive(Clone, Copy)]
 pub enum Validation {
     Permissive,
     Strict,
@@ -95,7 +95,7 @@ impl Validation {
 }
 
 // A header's content. Each field has one word; the Rust's name for it stands beside it.
-#[derive(Drop)]
+#[derive(Clone, Copy)]
 pub struct Header {
     // version
     pub version: Version,
@@ -118,7 +118,7 @@ pub struct Header {
 }
 
 // What reading a header comes to: a header, or the first cause against it.
-#[derive(Drop)]
+#[derive(Clone, Copy)]
 pub enum ReadVerdict {
     Accepted,
     // Fewer than 512 bytes.
@@ -162,7 +162,7 @@ impl ReadVerdict {
 }
 
 // The verdict, and the header beside it: where refused, version 3 with every number 0.
-#[derive(Drop)]
+#[derive(Clone, Copy)]
 pub struct Read {
     pub verdict: ReadVerdict,
     pub header: Header,
@@ -223,7 +223,7 @@ impl Header {
 }
 
 // What writing a header comes to: it is written, or the first cause against it.
-#[derive(Drop)]
+#[derive(Clone, Copy)]
 pub enum WriteVerdict {
     Written,
     // Fewer than 512 bytes lent.

@@ -81,7 +81,7 @@ pub fn item_numbers(found: Item) -> [u64; 3]
 }
 
 // The item that a caller's numbers name, if they name one.
-#[derive(Drop)]
+#[derive(Clone, Copy)]
 pub enum Named {
     Known(Sector),
     Unknown,

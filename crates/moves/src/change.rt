@@ -11,14 +11,14 @@ use room::{sectors_for, sectors_over, sectors_past};
 use stores::{write as write_bytes, zero_tail};
 
 // What is asked of a chain (document 01, Write and Resize): a buffer's bytes from an offset on, or a new length.
-#[derive(Drop)]
+#[derive(Clone, Copy)]
 pub enum Edit {
     Write(u64),
     Resize(u64),
 }
 
 // What a change leaves: how many sectors there are, how many of them are FREE, and how many the chain has.
-#[derive(Drop)]
+#[derive(Clone, Copy)]
 pub struct Changed {
     pub sectors: usize,
     pub free: usize,

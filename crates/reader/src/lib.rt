@@ -9,7 +9,7 @@ ghost use Rattle.reader.specs.Serve.{served_at, place_after, stepped, numbers_of
 use fields::{ENTRIES, MINOR, RESERVED, number_at};
 
 // The bytes that are read, and the place in the table of the field that comes next.
-#[derive(Drop)]
+#[derive(Clone, Copy)]
 pub struct Reader<'a> {
     pub bytes: &'a [u8],
     pub at: usize,
@@ -17,7 +17,7 @@ pub struct Reader<'a> {
 
 // The numbers in a header's fields, from the minor version to the count of DIFAT sectors. Each has one word; the Rust's name
 // for it stands beside it.
-#[derive(Drop)]
+#[derive(Clone, Copy)]
 pub struct Numbers {
     // minor_version
     pub minor: u32,

@@ -15,7 +15,7 @@ use records::RECORD;
 const MOST: u64 = 100_000;
 
 // What came of the next record of the list.
-#[derive(Drop)]
+#[derive(Clone, Copy)]
 enum Replayed {
     Ended,
     Same,
@@ -23,7 +23,7 @@ enum Replayed {
 }
 
 // How many answers there were, and how many of them differ.
-#[derive(Drop)]
+#[derive(Clone, Copy)]
 struct Sum {
     answers: u64,
     differ: u64,

@@ -7,7 +7,7 @@ ghost use Rattle.sectors.specs.Init.{init_bytes};
 ghost use Rattle.sectors.specs.declared.init.SectorInit.TheVariants.{Difat};
 
 // What a new sector is for.
-#[derive(Drop)]
+#[derive(Clone, Copy)]
 pub enum SectorInit {
     // Data: zeros.
     Zero,

@@ -7,7 +7,7 @@ ghost use Rattle.texts.specs.Text.{decimal_of, count_of, range_of, text_of, writ
 use consts::Sector;
 
 // The text of an item: `len` bytes, and zeros after them.
-#[derive(Drop)]
+#[derive(Clone, Copy)]
 pub struct Text {
     pub bytes: [u8; 32],
     pub len: usize,

@@ -7,7 +7,7 @@ ghost use Rattle.walk.specs.Walk.{leads as leadsOn};
 ghost use Rattle.walk.specs.Walked.{Walkable, WalkLeft};
 
 // What a walk answers: how many ids it listed, or the number of a refusal.
-#[derive(Drop)]
+#[derive(Clone, Copy)]
 pub enum Walked {
     Listed(usize),
     Refused(u32),
