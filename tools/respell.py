@@ -63,6 +63,8 @@ def table(texts, crates):
     kit = kit_names(texts, crates)
     specs, lemmas, camels = {}, {}, {}
     for path, text in texts.items():
+        if path.endswith(".rt"):
+            camels.update((name, snake(name)) for name in re.findall(r" as ([a-z]\w*[A-Z]\w*)", text))
         if not path.endswith(".antt"):
             continue
         for word in WORD.findall(bare(text)):

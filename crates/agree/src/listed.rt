@@ -1,7 +1,7 @@
 // Whether lent lists are those of an image's DIFAT and FAT sectors, and right (document 01, refusal 12).
 ghost use Rattle.std.specs.Prelude.{◌≡◌, length};
 ghost use Rattle.lists.specs.Lists.{both, same_list};
-ghost use Rattle.fat.specs.Lists.{all_below, chain_right, difat_at, difats_of, ends as endsOf, fats_of, fats_right};
+ghost use Rattle.fat.specs.Lists.{all_below, chain_right, difat_at, difats_of, ends as ends_of, fats_of, fats_right};
 ghost use Rattle.agree.specs.Parts.{ChainLent, ListsLent, PlacesLent, PlacesRoom, ChainRoom, lists_same};
 
 use crate::alike::same_numbers;
@@ -20,7 +20,7 @@ pub fn is_chain(
     room: &mut [u32],
 ) -> bool
     requires { ChainRoom s n (length image.now) (length difats.now) (length room.old) }
-    ensures { result ≡ both (both (all_below n (difats_of s image.now first (length difats.now))) (endsOf (difat_at s image.now first (length difats.now)))) (same_list difats.now (difats_of s image.now first (length difats.now))) }
+    ensures { result ≡ both (both (all_below n (difats_of s image.now first (length difats.now))) (ends_of (difat_at s image.now first (length difats.now)))) (same_list difats.now (difats_of s image.now first (length difats.now))) }
 {
     if !list_difats(image, s, n, first, room) {
         return false;

@@ -29,7 +29,7 @@ fn tails_zero(
     frees: &[u32],
     marks: &[u8],
 ) -> bool
-    ensures { result ≡ tails_zero n k d free (record { fat = fat.entry.now; fats = fats.now; difats = difats.now; frees = frees.now; marks = marks.now }) }
+    ensures { result ≡ tails_zero n k d free (record { fat = fat.now; fats = fats.now; difats = difats.now; frees = frees.now; marks = marks.now }) }
 {
     let lists = zeros_from(fats, k)
         & (zeros_from(difats, d) & (zeros_from(frees, free) & zero_bytes_from(marks, n)));
@@ -52,7 +52,7 @@ fn same_whole(
     scratch: &mut [u32],
 ) -> bool
     requires { WholeLent s n (length image.now) (record { fat = fat.now; fats = fats.now; difats = difats.now; frees = frees.now; marks = marks.now }) free (length scratch.old) }
-    ensures { result ≡ both (eqb (refusal (table_rows strict s image.now h n)) 0) (tables_held n (open_tables s image.now h n) free (record { fat = fat.entry.now; fats = fats.now; difats = difats.now; frees = frees.now; marks = marks.now })) }
+    ensures { result ≡ both (eqb (refusal (table_rows strict s image.now h n)) 0) (tables_held n (open_tables s image.now h n) free (record { fat = fat.now; fats = fats.now; difats = difats.now; frees = frees.now; marks = marks.now })) }
 {
     let k = ceil(n, s / 4);
     let d = ceil(past_header(k), s / 4 - 1);
@@ -91,7 +91,7 @@ pub fn agrees(
     scratch: &mut [u32],
 ) -> bool
     requires { room_of (length_of h.version) (length image.now) ≤ length scratch.old }
-    ensures { result ≡ agreement mode image.now used sectors free h (record { fat = fat.entry.now; fats = fats.now; difats = difats.now; frees = frees.now; marks = marks.now }) }
+    ensures { result ≡ agreement mode image.now used sectors free h (record { fat = fat.now; fats = fats.now; difats = difats.now; frees = frees.now; marks = marks.now }) }
 {
     let short = shortest(fat, fats, difats, frees, marks);
     let early = judge_early(image, used, mode, short);

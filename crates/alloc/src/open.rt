@@ -1,7 +1,7 @@
 // The opening of an image (document 01, "Opening an image").
 ghost use Rattle.std.specs.Prelude.{◌≡◌, length, replicate};
 ghost use Rattle.header.specs.Read.{none};
-ghost use Rattle.alloc.specs.Opening.{shortest as shortestOf};
+ghost use Rattle.alloc.specs.Opening.{shortest as shortest_of};
 ghost use Rattle.alloc.specs.Opened.{AllFilled, AllLoaded, Lent, OpenSays, Zeroed, TablesFilled};
 
 use crate::early::judge_early;
@@ -140,7 +140,7 @@ fn nothing(no: u32) -> Found
 
 // The length of the shortest table.
 pub fn shortest(fat: &[u32], fats: &[u32], difats: &[u32], frees: &[u32], marks: &[u8]) -> usize
-    ensures { result ≡ shortestOf (record { fat = fat.entry.now; fats = fats.now; difats = difats.now; frees = frees.now; marks = marks.now }) }
+    ensures { result ≡ shortest_of (record { fat = fat.now; fats = fats.now; difats = difats.now; frees = frees.now; marks = marks.now }) }
 {
     let others = lesser(difats.len(), lesser(frees.len(), marks.len()));
     lesser(fat.len(), lesser(fats.len(), others))
@@ -157,7 +157,7 @@ pub fn open_tables(
     frees: &mut [u32],
     marks: &mut [u8],
 ) -> Found
-    ensures { OpenSays validation image.now used (record { fat = fat.entry.now; fats = fats.old; difats = difats.old; frees = frees.old; marks = marks.old }) result (record { fat = fat.exit.now; fats = fats.new; difats = difats.new; frees = frees.new; marks = marks.new }) }
+    ensures { OpenSays validation image.now used (record { fat = fat.old; fats = fats.old; difats = difats.old; frees = frees.old; marks = marks.old }) result (record { fat = fat.new; fats = fats.new; difats = difats.new; frees = frees.new; marks = marks.new }) }
 {
     let short = shortest(fat, fats, difats, frees, marks);
     let early = judge_early(image, used, validation, short);

@@ -41,7 +41,7 @@ pub(crate) fn chain_of(
     ids: &mut [u32],
     start: u32,
 ) -> Walked
-    ensures { ChainListed s image.now (record { fat = fat.entry.now; fats = fats.now; difats = difats.now; frees = frees.now; marks = marks.now }) ids.old start result ids.new }
+    ensures { ChainListed s image.now (record { fat = fat.now; fats = fats.now; difats = difats.now; frees = frees.now; marks = marks.now }) ids.old start result ids.new }
 {
     let h = s.header;
     let version = h.version;

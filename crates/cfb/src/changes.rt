@@ -47,7 +47,7 @@ pub(crate) fn change_of(
     ids: &mut [u32],
     start: u32,
 ) -> Walked
-    ensures { ChangeListed s image.now (record { fat = fat.entry.now; fats = fats.now; difats = difats.now; frees = frees.now; marks = marks.now }) ids.old start result ids.new }
+    ensures { ChangeListed s image.now (record { fat = fat.now; fats = fats.now; difats = difats.now; frees = frees.now; marks = marks.now }) ids.old start result ids.new }
 {
     let walked = chain_of(s, image, fat, fats, difats, frees, marks, ids, start);
     let no = number_of(walked);

@@ -125,7 +125,7 @@ impl State {
         frees: &mut [u32],
         marks: &mut [u8],
     ) -> Opened
-        ensures { Opens mode image.now used (record { fat = fat.entry.now; fats = fats.old; difats = difats.old; frees = frees.old; marks = marks.old }) result image.now (record { fat = fat.exit.now; fats = fats.new; difats = difats.new; frees = frees.new; marks = marks.new }) }
+        ensures { Opens mode image.now used (record { fat = fat.old; fats = fats.old; difats = difats.old; frees = frees.old; marks = marks.old }) result image.now (record { fat = fat.new; fats = fats.new; difats = difats.new; frees = frees.new; marks = marks.new }) }
     {
         let found = open_tables(image, used, mode, fat, fats, difats, frees, marks);
         let no = found.no;
@@ -163,7 +163,7 @@ impl State {
         ids: &mut [u32],
         start: u32,
     ) -> Called
-        ensures { ChainOpens self image.now (record { fat = fat.entry.now; fats = fats.now; difats = difats.now; frees = frees.now; marks = marks.now }) ids.old start result image.now (record { fat = fat.exit.now; fats = fats.now; difats = difats.now; frees = frees.now; marks = marks.now }) ids.new }
+        ensures { ChainOpens self image.now (record { fat = fat.now; fats = fats.now; difats = difats.now; frees = frees.now; marks = marks.now }) ids.old start result image.now (record { fat = fat.now; fats = fats.now; difats = difats.now; frees = frees.now; marks = marks.now }) ids.new }
     {
         let walked = chain_of(self, image, fat, fats, difats, frees, marks, ids, start);
         let answer = answer_of(walked, start);
@@ -187,7 +187,7 @@ impl State {
         offset: u64,
         buf: &mut [u8],
     ) -> Called
-        ensures { ChainReads self image.now (record { fat = fat.entry.now; fats = fats.now; difats = difats.now; frees = frees.now; marks = marks.now }) ids.old start offset buf.old result image.now (record { fat = fat.exit.now; fats = fats.now; difats = difats.now; frees = frees.now; marks = marks.now }) ids.new buf.new }
+        ensures { ChainReads self image.now (record { fat = fat.now; fats = fats.now; difats = difats.now; frees = frees.now; marks = marks.now }) ids.old start offset buf.old result image.now (record { fat = fat.now; fats = fats.now; difats = difats.now; frees = frees.now; marks = marks.now }) ids.new buf.new }
     {
         let walked = chain_of(self, image, fat, fats, difats, frees, marks, ids, start);
         let Walked::Listed(count) = walked else {
@@ -230,7 +230,7 @@ impl State {
         edit: Edit,
         buf: &[u8],
     ) -> Called
-        ensures { ChainEdits self image.old (record { fat = fat.entry.now; fats = fats.old; difats = difats.old; frees = frees.old; marks = marks.old }) ids.old start edit buf.now result image.new (record { fat = fat.exit.now; fats = fats.new; difats = difats.new; frees = frees.new; marks = marks.new }) ids.new }
+        ensures { ChainEdits self image.old (record { fat = fat.old; fats = fats.old; difats = difats.old; frees = frees.old; marks = marks.old }) ids.old start edit buf.now result image.new (record { fat = fat.new; fats = fats.new; difats = difats.new; frees = frees.new; marks = marks.new }) ids.new }
     {
         let listed = change_of(self, image, fat, fats, difats, frees, marks, ids, start);
         let walked = edit_listed(self, listed, image.len(), ids, edit, buf.len());
@@ -264,7 +264,7 @@ impl State {
         offset: u64,
         buf: &[u8],
     ) -> Called
-        ensures { ChainWrites self image.old (record { fat = fat.entry.now; fats = fats.old; difats = difats.old; frees = frees.old; marks = marks.old }) ids.old start offset buf.now result image.new (record { fat = fat.exit.now; fats = fats.new; difats = difats.new; frees = frees.new; marks = marks.new }) ids.new }
+        ensures { ChainWrites self image.old (record { fat = fat.old; fats = fats.old; difats = difats.old; frees = frees.old; marks = marks.old }) ids.old start offset buf.now result image.new (record { fat = fat.new; fats = fats.new; difats = difats.new; frees = frees.new; marks = marks.new }) ids.new }
     {
         self.change(
             image,
@@ -293,7 +293,7 @@ impl State {
         start: u32,
         len: u64,
     ) -> Called
-        ensures { ChainResizes self image.old (record { fat = fat.entry.now; fats = fats.old; difats = difats.old; frees = frees.old; marks = marks.old }) ids.old start len result image.new (record { fat = fat.exit.now; fats = fats.new; difats = difats.new; frees = frees.new; marks = marks.new }) ids.new }
+        ensures { ChainResizes self image.old (record { fat = fat.old; fats = fats.old; difats = difats.old; frees = frees.old; marks = marks.old }) ids.old start len result image.new (record { fat = fat.new; fats = fats.new; difats = difats.new; frees = frees.new; marks = marks.new }) ids.new }
     {
         let none = [0u8; 0];
         self.change(
@@ -322,7 +322,7 @@ impl State {
         ids: &mut [u32],
         start: u32,
     ) -> Called
-        ensures { ChainResizes self image.old (record { fat = fat.entry.now; fats = fats.old; difats = difats.old; frees = frees.old; marks = marks.old }) ids.old start 0 result image.new (record { fat = fat.exit.now; fats = fats.new; difats = difats.new; frees = frees.new; marks = marks.new }) ids.new }
+        ensures { ChainResizes self image.old (record { fat = fat.old; fats = fats.old; difats = difats.old; frees = frees.old; marks = marks.old }) ids.old start 0 result image.new (record { fat = fat.new; fats = fats.new; difats = difats.new; frees = frees.new; marks = marks.new }) ids.new }
     {
         self.resize(image, fat, fats, difats, frees, marks, ids, start, 0)
     }

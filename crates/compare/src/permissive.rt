@@ -3,7 +3,7 @@ ghost use Rattle.std.specs.Prelude.{◌≡◌, true, length};
 ghost use Rattle.lists.specs.Lists.{same_list};
 ghost use Rattle.fat.specs.Lists.{all_below, fat_of};
 ghost use Rattle.fat.specs.Loaded.{Covers};
-ghost use Rattle.judge.specs.Judge.{forgiven as forgivenOf, forgiven_fat};
+ghost use Rattle.judge.specs.Judge.{forgiven as forgiven_of, forgiven_fat};
 ghost use Rattle.compare.specs.Compare.{permissive_same};
 
 use crate::limit_of;
@@ -12,7 +12,7 @@ use judge::marks::set_listed;
 
 // An entry as permissive reads it: a regular one at or above the limit becomes END.
 pub fn forgiven(limit: u32, entry: u32) -> u32
-    ensures { result ≡ forgivenOf limit entry }
+    ensures { result ≡ forgiven_of limit entry }
 {
     if entry > consts::MAX_REGULAR_SECTOR {
         return entry;

@@ -4,7 +4,7 @@ ghost use Rattle.lists.specs.Lists.{splice};
 ghost use Rattle.words.specs.Words.{digits};
 ghost use Rattle.sectors.specs.Sectors.{start_of, per_sector};
 ghost use Rattle.fat.specs.Lists.{most, room_of};
-ghost use Rattle.disk.specs.Disk.{entry_place, link_place, append_difat, hold_place, list_place, append_fat, ready, new_sector, needs_difat as needsDifatOf};
+ghost use Rattle.disk.specs.Disk.{entry_place, link_place, append_difat, hold_place, list_place, append_fat, ready, new_sector, needs_difat as needs_difat_of};
 ghost use Rattle.disk.specs.Fits.{FitsOne, FitsPlace, FitsFat, FitsNew};
 
 use fat::listed::ceil;
@@ -51,7 +51,7 @@ fn append_difat_sector(
 )
     requires fits_one { FitsOne s (room_of s (length image.now)) j (record { image = image.now; fat = fat.old; fats = fats.now; difats = difats.old; sectors = n }) }
     requires j_in_bounds { j < length difats.old }
-    ensures { record { image = image.exit.now; fat = fat.new; fats = fats.now; difats = difats.new; sectors = suc n } ≡ append_difat s (record { image = image.entry.now; fat = fat.old; fats = fats.now; difats = difats.old; sectors = n }) j }
+    ensures { record { image = image.new; fat = fat.new; fats = fats.now; difats = difats.new; sectors = suc n } ≡ append_difat s (record { image = image.old; fat = fat.old; fats = fats.now; difats = difats.old; sectors = n }) j }
 {
     let id = n as u32;
     init_at(image, s, n, SectorInit::Difat);
@@ -64,7 +64,7 @@ fn append_difat_sector(
 // Whether place p of the DIFAT is in a DIFAT sector, and none of those that p places need has it.
 pub fn needs_difat(s: usize, p: usize) -> bool
     requires { (512 ≤ s) × (s ≤ 65536) × (p ≤ most) }
-    ensures { result ≡ needsDifatOf s p }
+    ensures { result ≡ needs_difat_of s p }
 {
     let each = s / 4 - 1;
     if p < 109 {
@@ -84,7 +84,7 @@ fn hold_place(
     p: usize,
 ) -> usize
     requires { (109 ≤ p) × FitsPlace s (room_of s (length image.now)) p (record { image = image.now; fat = fat.old; fats = fats.now; difats = difats.old; sectors = n }) }
-    ensures { record { image = image.exit.now; fat = fat.new; fats = fats.now; difats = difats.new; sectors = result } ≡ hold_place s (record { image = image.entry.now; fat = fat.old; fats = fats.now; difats = difats.old; sectors = n }) p }
+    ensures { record { image = image.new; fat = fat.new; fats = fats.now; difats = difats.new; sectors = result } ≡ hold_place s (record { image = image.old; fat = fat.old; fats = fats.now; difats = difats.old; sectors = n }) p }
 {
     if !needs_difat(s, p) {
         return n;
@@ -105,7 +105,7 @@ fn list_place(
     id: u32,
 ) -> usize
     requires { FitsPlace s (room_of s (length image.now)) p (record { image = image.now; fat = fat.old; fats = fats.now; difats = difats.old; sectors = n }) }
-    ensures { record { image = image.exit.now; fat = fat.new; fats = fats.now; difats = difats.new; sectors = result } ≡ list_place s (record { image = image.entry.now; fat = fat.old; fats = fats.now; difats = difats.old; sectors = n }) p id }
+    ensures { record { image = image.new; fat = fat.new; fats = fats.now; difats = difats.new; sectors = result } ≡ list_place s (record { image = image.old; fat = fat.old; fats = fats.now; difats = difats.old; sectors = n }) p id }
 {
     if p < 109 {
         put_place(image, p, id);
@@ -128,7 +128,7 @@ fn append_fat_sector(
     difats: &mut [u32],
 ) -> usize
     requires { FitsFat s (room_of s (length image.now)) (record { image = image.now; fat = fat.old; fats = fats.old; difats = difats.old; sectors = n }) }
-    ensures { record { image = image.exit.now; fat = fat.new; fats = fats.new; difats = difats.new; sectors = result } ≡ append_fat s (record { image = image.entry.now; fat = fat.old; fats = fats.old; difats = difats.old; sectors = n }) }
+    ensures { record { image = image.new; fat = fat.new; fats = fats.new; difats = difats.new; sectors = result } ≡ append_fat s (record { image = image.old; fat = fat.old; fats = fats.old; difats = difats.old; sectors = n }) }
 {
     let k = n / (s / 4);
     let id = n as u32;
@@ -150,7 +150,7 @@ fn make_ready(
     difats: &mut [u32],
 ) -> usize
     requires { FitsNew s (room_of s (length image.now)) (record { image = image.now; fat = fat.old; fats = fats.old; difats = difats.old; sectors = n }) }
-    ensures { record { image = image.exit.now; fat = fat.new; fats = fats.new; difats = difats.new; sectors = result } ≡ ready s (record { image = image.entry.now; fat = fat.old; fats = fats.old; difats = difats.old; sectors = n }) }
+    ensures { record { image = image.new; fat = fat.new; fats = fats.new; difats = difats.new; sectors = result } ≡ ready s (record { image = image.old; fat = fat.old; fats = fats.old; difats = difats.old; sectors = n }) }
 {
     if n % (s / 4) != 0 {
         return n;
@@ -168,7 +168,7 @@ pub fn new_sector(
     difats: &mut [u32],
 ) -> usize
     requires { FitsNew s (room_of s (length image.now)) (record { image = image.now; fat = fat.old; fats = fats.old; difats = difats.old; sectors = n }) }
-    ensures { (result ≡ (ready s (record { image = image.entry.now; fat = fat.old; fats = fats.old; difats = difats.old; sectors = n })).sectors) × (record { image = image.exit.now; fat = fat.new; fats = fats.new; difats = difats.new; sectors = suc result } ≡ new_sector s (record { image = image.entry.now; fat = fat.old; fats = fats.old; difats = difats.old; sectors = n })) }
+    ensures { (result ≡ (ready s (record { image = image.old; fat = fat.old; fats = fats.old; difats = difats.old; sectors = n })).sectors) × (record { image = image.new; fat = fat.new; fats = fats.new; difats = difats.new; sectors = suc result } ≡ new_sector s (record { image = image.old; fat = fat.old; fats = fats.old; difats = difats.old; sectors = n })) }
 {
     let id = make_ready(image, s, n, fat, fats, difats);
     set_fat(image, s, fat, fats, id, consts::END_OF_CHAIN);

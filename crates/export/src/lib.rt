@@ -63,7 +63,7 @@ pub extern "C" fn rasuvelk_open(
     marks: &mut [u8],
     state: &mut [u64; 121],
 ) -> u32
-    ensures { OpenGives mode image.now used (record { fat = fat.entry.now; fats = fats.old; difats = difats.old; frees = frees.old; marks = marks.old }) result state.new image.now (record { fat = fat.exit.now; fats = fats.new; difats = difats.new; frees = frees.new; marks = marks.new }) }
+    ensures { OpenGives mode image.now used (record { fat = fat.old; fats = fats.old; difats = difats.old; frees = frees.old; marks = marks.old }) result state.new image.now (record { fat = fat.new; fats = fats.new; difats = difats.new; frees = frees.new; marks = marks.new }) }
 {
     let opened = State::open(image, used, mode_of(mode), fat, fats, difats, frees, marks);
     let left = opened.state;
@@ -87,7 +87,7 @@ pub extern "C" fn rasuvelk_open_chain(
     start: u32,
     answer: &mut [u64; 3],
 ) -> u32
-    ensures { OpenChainGives state.now image.now (record { fat = fat.entry.now; fats = fats.now; difats = difats.now; frees = frees.now; marks = marks.now }) ids.old start result answer.new state.now image.now (record { fat = fat.exit.now; fats = fats.now; difats = difats.now; frees = frees.now; marks = marks.now }) ids.new }
+    ensures { OpenChainGives state.now image.now (record { fat = fat.now; fats = fats.now; difats = difats.now; frees = frees.now; marks = marks.now }) ids.old start result answer.new state.now image.now (record { fat = fat.now; fats = fats.now; difats = difats.now; frees = frees.now; marks = marks.now }) ids.new }
 {
     let lent = *state;
     if !holds_state(lent) {
@@ -119,7 +119,7 @@ pub extern "C" fn rasuvelk_read_chain(
     buf: &mut [u8],
     answer: &mut [u64; 3],
 ) -> u32
-    ensures { ReadChainGives state.now image.now (record { fat = fat.entry.now; fats = fats.now; difats = difats.now; frees = frees.now; marks = marks.now }) ids.old start offset buf.old result answer.new state.now image.now (record { fat = fat.exit.now; fats = fats.now; difats = difats.now; frees = frees.now; marks = marks.now }) ids.new buf.new }
+    ensures { ReadChainGives state.now image.now (record { fat = fat.now; fats = fats.now; difats = difats.now; frees = frees.now; marks = marks.now }) ids.old start offset buf.old result answer.new state.now image.now (record { fat = fat.now; fats = fats.now; difats = difats.now; frees = frees.now; marks = marks.now }) ids.new buf.new }
 {
     let lent = *state;
     if !holds_state(lent) {
@@ -152,7 +152,7 @@ fn change_chain(
     buf: &[u8],
     answer: &mut [u64; 3],
 ) -> u32
-    ensures { EditChainGives state.old image.old (record { fat = fat.entry.now; fats = fats.old; difats = difats.old; frees = frees.old; marks = marks.old }) ids.old start edit buf.now result answer.new state.new image.new (record { fat = fat.exit.now; fats = fats.new; difats = difats.new; frees = frees.new; marks = marks.new }) ids.new }
+    ensures { EditChainGives state.old image.old (record { fat = fat.old; fats = fats.old; difats = difats.old; frees = frees.old; marks = marks.old }) ids.old start edit buf.now result answer.new state.new image.new (record { fat = fat.new; fats = fats.new; difats = difats.new; frees = frees.new; marks = marks.new }) ids.new }
 {
     let lent = *state;
     if !holds_state(lent) {
@@ -183,7 +183,7 @@ pub extern "C" fn rasuvelk_write_chain(
     buf: &[u8],
     answer: &mut [u64; 3],
 ) -> u32
-    ensures { WriteChainGives state.old image.old (record { fat = fat.entry.now; fats = fats.old; difats = difats.old; frees = frees.old; marks = marks.old }) ids.old start offset buf.now result answer.new state.new image.new (record { fat = fat.exit.now; fats = fats.new; difats = difats.new; frees = frees.new; marks = marks.new }) ids.new }
+    ensures { WriteChainGives state.old image.old (record { fat = fat.old; fats = fats.old; difats = difats.old; frees = frees.old; marks = marks.old }) ids.old start offset buf.now result answer.new state.new image.new (record { fat = fat.new; fats = fats.new; difats = difats.new; frees = frees.new; marks = marks.new }) ids.new }
 {
     change_chain(
         state,
@@ -216,7 +216,7 @@ pub extern "C" fn rasuvelk_resize_chain(
     length: u64,
     answer: &mut [u64; 3],
 ) -> u32
-    ensures { ResizeChainGives state.old image.old (record { fat = fat.entry.now; fats = fats.old; difats = difats.old; frees = frees.old; marks = marks.old }) ids.old start length result answer.new state.new image.new (record { fat = fat.exit.now; fats = fats.new; difats = difats.new; frees = frees.new; marks = marks.new }) ids.new }
+    ensures { ResizeChainGives state.old image.old (record { fat = fat.old; fats = fats.old; difats = difats.old; frees = frees.old; marks = marks.old }) ids.old start length result answer.new state.new image.new (record { fat = fat.new; fats = fats.new; difats = difats.new; frees = frees.new; marks = marks.new }) ids.new }
 {
     let none = [0u8; 0];
     change_chain(
@@ -249,7 +249,7 @@ pub extern "C" fn rasuvelk_free_chain(
     start: u32,
     answer: &mut [u64; 3],
 ) -> u32
-    ensures { ResizeChainGives state.old image.old (record { fat = fat.entry.now; fats = fats.old; difats = difats.old; frees = frees.old; marks = marks.old }) ids.old start 0 result answer.new state.new image.new (record { fat = fat.exit.now; fats = fats.new; difats = difats.new; frees = frees.new; marks = marks.new }) ids.new }
+    ensures { ResizeChainGives state.old image.old (record { fat = fat.old; fats = fats.old; difats = difats.old; frees = frees.old; marks = marks.old }) ids.old start 0 result answer.new state.new image.new (record { fat = fat.new; fats = fats.new; difats = difats.new; frees = frees.new; marks = marks.new }) ids.new }
 {
     let none = [0u8; 0];
     change_chain(

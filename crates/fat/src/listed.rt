@@ -1,7 +1,7 @@
 // The lists of an image's FAT and DIFAT sectors, loaded and judged (document 01, refusal 12).
 ghost use Rattle.std.specs.Prelude.{◌≡◌, ◌+◌, ◌^◌, ◌≤◌, ◌<◌, length};
 ghost use Rattle.sectors.specs.Sectors.{Holds};
-ghost use Rattle.fat.specs.Lists.{ceil as ceilOf, counts_right, chain_right, fats_right, difats_of, fats_of};
+ghost use Rattle.fat.specs.Lists.{ceil as ceil_of, counts_right, chain_right, fats_right, difats_of, fats_of};
 ghost use Rattle.fat.specs.Loaded.{Counted, ListsLoaded, Loads, Places};
 
 use crate::load::{list_difats, list_fats, rest_free};
@@ -11,7 +11,7 @@ use header::Header;
 // a / b, rounded up.
 pub fn ceil(a: usize, b: usize) -> usize
     requires { (1 ≤ b) × (a + b < 2 ^ 63) }
-    ensures { result ≡ ceilOf a b }
+    ensures { result ≡ ceil_of a b }
 {
     (a + (b - 1)) / b
 }

@@ -1,12 +1,12 @@
 // The lists and the FAT out of an image's bytes (MS-CFB 2.3 and 2.5; document 01, refusals 12 and 13).
 ghost use Rattle.std.specs.Prelude.{◌≡◌, ◌+◌, ◌-◌, ◌≤◌, min, length};
 ghost use Rattle.sectors.specs.Sectors.{Holds};
-ghost use Rattle.fat.specs.Lists.{ends as endsOf, place_at, rest_free, fat_of, tail_free};
+ghost use Rattle.fat.specs.Lists.{ends as ends_of, place_at, rest_free, fat_of, tail_free};
 ghost use Rattle.fat.specs.Loaded.{ChainListed, Covers, Places, PlacesListed};
 
 // Whether a pointer is END or FREE.
 pub fn ends(v: u32) -> bool
-    ensures { result ≡ endsOf v }
+    ensures { result ≡ ends_of v }
 {
     if v == consts::END_OF_CHAIN {
         return true;

@@ -1,7 +1,7 @@
 // Whether a number stands twice in a list of sectors.
 ghost use Rattle.std.specs.Prelude.{◌≡◌, ℕ, ◌≤◌, ◌<◌, true, eqb, length, get_or};
 ghost use Rattle.lists.specs.Lists.{every};
-ghost use Rattle.fat.specs.Lists.{all_below, different as noneTwice};
+ghost use Rattle.fat.specs.Lists.{all_below, different as none_twice};
 
 // A sector's number as an index.
 pub fn index(x: u32) -> usize
@@ -47,7 +47,7 @@ pub fn places_stand(list: &[u32], scratch: &[u32]) -> bool
 pub fn different(list: &[u32], scratch: &mut [u32]) -> bool
     requires list_value { all_below (length scratch.old) list.now ≡ true }
     requires list_len_bound { length list.now ≤ 65536 }
-    ensures { result ≡ noneTwice list.now }
+    ensures { result ≡ none_twice list.now }
 {
     put_places(list, scratch);
     places_stand(list, scratch)

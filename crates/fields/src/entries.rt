@@ -2,7 +2,7 @@
 ghost use Rattle.std.specs.Prelude.{◌≡◌, ◌+◌, ◌*◌, ◌≤◌, ◌<◌, length};
 ghost use Rattle.lists.specs.Lists.{splice};
 ghost use Rattle.words.specs.Words.{digits};
-ghost use Rattle.fields.specs.Fields.{entries_at, offset_of, list_of, ids_in, all_free, ids_then_free, list_bytes, unreadable as unreadableOf};
+ghost use Rattle.fields.specs.Fields.{entries_at, offset_of, list_of, ids_in, all_free, ids_then_free, list_bytes, unreadable as unreadable_of};
 
 use crate::{ENTRIES, row};
 
@@ -87,7 +87,7 @@ pub fn ids_then_free(list: &[u32]) -> bool
 
 // Whether the list is none that a reader could give, or the first DIFAT sector is FREE.
 pub fn unreadable(list: &[u32], difat: u32) -> bool
-    ensures { result ≡ unreadableOf list.now difat }
+    ensures { result ≡ unreadable_of list.now difat }
 {
     if !ids_then_free(list) {
         return true;

@@ -36,7 +36,7 @@ pub fn point(
     requires s_value { (s ≡ 4 * per_sector s) × (1 ≤ per_sector s) × (n ≤ length marks.old) }
     requires i_in_bounds { (i < length fat.old) × (i / per_sector s < length fats.now) }
     requires s_in_bounds { start_of s (get_or fats.now (i / per_sector s) 0) + s ≤ length image.old }
-    ensures { (difats frees : List ℕ) (free : ℕ) → record { disk = record { image = image.exit.now; fat = fat.new; fats = fats.now; difats = difats; sectors = n }; frees = frees; free = free; marks = marks.new } ≡ pointed s (record { disk = record { image = image.entry.now; fat = fat.old; fats = fats.now; difats = difats; sectors = n }; frees = frees; free = free; marks = marks.old }) i v }
+    ensures { (difats frees : List ℕ) (free : ℕ) → record { disk = record { image = image.new; fat = fat.new; fats = fats.now; difats = difats; sectors = n }; frees = frees; free = free; marks = marks.new } ≡ pointed s (record { disk = record { image = image.old; fat = fat.old; fats = fats.now; difats = difats; sectors = n }; frees = frees; free = free; marks = marks.old }) i v }
 {
     set_mark(n, marks, fat[i], 0);
     set_mark(n, marks, v, 1);
@@ -56,7 +56,7 @@ fn reuse(image: &mut [u8], s: usize, fat: &mut [u32], fats: &[u32], id: u32)
     requires s_value { (s ≡ 4 * per_sector s) × (1 ≤ per_sector s) }
     requires id_in_bounds { (id < length fat.old) × (id / per_sector s < length fats.now) }
     requires s_in_bounds { (start_of s (get_or fats.now (id / per_sector s) 0) + s ≤ length image.old) × (start_of s id + s ≤ length image.old) }
-    ensures { (difats : List ℕ) → (sectors : ℕ) → record { image = image.exit.now; fat = fat.new; fats = fats.now; difats = difats; sectors = sectors } ≡ reused s (record { image = image.entry.now; fat = fat.old; fats = fats.now; difats = difats; sectors = sectors }) id }
+    ensures { (difats : List ℕ) → (sectors : ℕ) → record { image = image.new; fat = fat.new; fats = fats.now; difats = difats; sectors = sectors } ≡ reused s (record { image = image.old; fat = fat.old; fats = fats.now; difats = difats; sectors = sectors }) id }
 {
     let i = id as usize;
     set_fat(image, s, fat, fats, i, consts::END_OF_CHAIN);
@@ -75,7 +75,7 @@ pub fn take_sector_id(
     frees: &mut [u32],
 ) -> Taken
     requires { FitsStock s (room_of s (length image.now)) (record { image = image.now; fat = fat.old; fats = fats.old; difats = difats.old; sectors = n }) frees.old free }
-    ensures { (marks : List ℕ) → (result.id ≡ taken_id s (record { disk = record { image = image.entry.now; fat = fat.old; fats = fats.old; difats = difats.old; sectors = n }; frees = frees.old; free = free; marks = marks })) × (record { disk = record { image = image.exit.now; fat = fat.new; fats = fats.new; difats = difats.new; sectors = result.sectors }; frees = frees.new; free = result.free; marks = marks } ≡ take_sector s (record { disk = record { image = image.entry.now; fat = fat.old; fats = fats.old; difats = difats.old; sectors = n }; frees = frees.old; free = free; marks = marks })) }
+    ensures { (marks : List ℕ) → (result.id ≡ taken_id s (record { disk = record { image = image.old; fat = fat.old; fats = fats.old; difats = difats.old; sectors = n }; frees = frees.old; free = free; marks = marks })) × (record { disk = record { image = image.new; fat = fat.new; fats = fats.new; difats = difats.new; sectors = result.sectors }; frees = frees.new; free = result.free; marks = marks } ≡ take_sector s (record { disk = record { image = image.old; fat = fat.old; fats = fats.old; difats = difats.old; sectors = n }; frees = frees.old; free = free; marks = marks })) }
 {
     if free == 0 {
         let id = new_sector(image, s, n, fat, fats, difats);
@@ -111,7 +111,7 @@ pub fn free_run(
     count: usize,
 )
     requires { (difats : List ℕ) × FitsFrees s (room_of s (length image.now)) from count ids.now (record { disk = record { image = image.now; fat = fat.old; fats = fats.now; difats = difats; sectors = n }; frees = frees.old; free = free; marks = marks.old }) }
-    ensures { (difats : List ℕ) → record { disk = record { image = image.exit.now; fat = fat.new; fats = fats.now; difats = difats; sectors = n }; frees = frees.new; free = (free + count); marks = marks.new } ≡ free_run s (record { disk = record { image = image.entry.now; fat = fat.old; fats = fats.now; difats = difats; sectors = n }; frees = frees.old; free = free; marks = marks.old }) ids.now from count }
+    ensures { (difats : List ℕ) → record { disk = record { image = image.new; fat = fat.new; fats = fats.now; difats = difats; sectors = n }; frees = frees.new; free = (free + count); marks = marks.new } ≡ free_run s (record { disk = record { image = image.old; fat = fat.old; fats = fats.now; difats = difats; sectors = n }; frees = frees.old; free = free; marks = marks.old }) ids.now from count }
 {
     let mut j = 0;
     while j < count {
@@ -144,7 +144,7 @@ pub fn link_last(
     id: u32,
 )
     requires { FitsLast s n (length image.old) (length fat.old) fats.now (length marks.old) ids.now count }
-    ensures { (difats frees : List ℕ) (free : ℕ) → record { disk = record { image = image.exit.now; fat = fat.new; fats = fats.now; difats = difats; sectors = n }; frees = frees; free = free; marks = marks.new } ≡ linked s (record { disk = record { image = image.entry.now; fat = fat.old; fats = fats.now; difats = difats; sectors = n }; frees = frees; free = free; marks = marks.old }) ids.now count id }
+    ensures { (difats frees : List ℕ) (free : ℕ) → record { disk = record { image = image.new; fat = fat.new; fats = fats.now; difats = difats; sectors = n }; frees = frees; free = free; marks = marks.new } ≡ linked s (record { disk = record { image = image.old; fat = fat.old; fats = fats.now; difats = difats; sectors = n }; frees = frees; free = free; marks = marks.old }) ids.now count id }
 {
     if count == 0 {
         return;

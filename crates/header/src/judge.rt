@@ -2,7 +2,7 @@
 ghost use Rattle.std.specs.Prelude.{◌≡◌, ◌≤◌, length};
 ghost use Rattle.lists.specs.Rows.{refusal};
 ghost use Rattle.header.specs.Versions.{version_of};
-ghost use Rattle.header.specs.Read.{read_number, fixed_of, unknown as unknownOf, counts_dirs, fixed_rows};
+ghost use Rattle.header.specs.Read.{read_number, fixed_of, unknown as unknown_of, counts_dirs, fixed_rows};
 
 use crate::{ReadVerdict, Validation, Version};
 use reader::read_fields;
@@ -36,7 +36,7 @@ pub(crate) fn judged_by(b: &[u8]) -> Fixed
 
 // Whether a major version is neither 3 nor 4.
 pub(crate) fn unknown(major: u32) -> bool
-    ensures { result ≡ unknownOf major }
+    ensures { result ≡ unknown_of major }
 {
     if major == 3 {
         return false;

@@ -22,7 +22,7 @@ fn extend_one(
     count: usize,
 ) -> Changed
     requires { FitsMore s (room_of s (length image.now)) 1 (record { hand = record { disk = record { image = image.now; fat = fat.old; fats = fats.old; difats = difats.old; sectors = n }; frees = frees.old; free = free; marks = marks.old }; ids = ids.old; count = count }) }
-    ensures { record { hand = record { disk = record { image = image.exit.now; fat = fat.new; fats = fats.new; difats = difats.new; sectors = result.sectors }; frees = frees.new; free = result.free; marks = marks.new }; ids = ids.new; count = result.ids } ≡ extend_one s (record { hand = record { disk = record { image = image.entry.now; fat = fat.old; fats = fats.old; difats = difats.old; sectors = n }; frees = frees.old; free = free; marks = marks.old }; ids = ids.old; count = count }) }
+    ensures { record { hand = record { disk = record { image = image.new; fat = fat.new; fats = fats.new; difats = difats.new; sectors = result.sectors }; frees = frees.new; free = result.free; marks = marks.new }; ids = ids.new; count = result.ids } ≡ extend_one s (record { hand = record { disk = record { image = image.old; fat = fat.old; fats = fats.old; difats = difats.old; sectors = n }; frees = frees.old; free = free; marks = marks.old }; ids = ids.old; count = count }) }
 {
     let taken = take_sector_id(image, s, n, free, fat, fats, difats, frees);
     let id = taken.id;
@@ -52,7 +52,7 @@ pub fn extend_by(
     more: usize,
 ) -> Changed
     requires { FitsMore s (room_of s (length image.now)) more (record { hand = record { disk = record { image = image.now; fat = fat.old; fats = fats.old; difats = difats.old; sectors = n }; frees = frees.old; free = free; marks = marks.old }; ids = ids.old; count = count }) }
-    ensures { record { hand = record { disk = record { image = image.exit.now; fat = fat.new; fats = fats.new; difats = difats.new; sectors = result.sectors }; frees = frees.new; free = result.free; marks = marks.new }; ids = ids.new; count = result.ids } ≡ extend s (record { hand = record { disk = record { image = image.entry.now; fat = fat.old; fats = fats.old; difats = difats.old; sectors = n }; frees = frees.old; free = free; marks = marks.old }; ids = ids.old; count = count }) more }
+    ensures { record { hand = record { disk = record { image = image.new; fat = fat.new; fats = fats.new; difats = difats.new; sectors = result.sectors }; frees = frees.new; free = result.free; marks = marks.new }; ids = ids.new; count = result.ids } ≡ extend s (record { hand = record { disk = record { image = image.old; fat = fat.old; fats = fats.old; difats = difats.old; sectors = n }; frees = frees.old; free = free; marks = marks.old }; ids = ids.old; count = count }) more }
 {
     let mut grown = Changed {
         sectors: n,

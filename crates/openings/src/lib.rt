@@ -56,7 +56,7 @@ fn same_tables(
     case: &[u8],
 ) -> bool
     requires { length case.now ≡ 1024 }
-    ensures { result ≡ true → ◌≡◌ {A = Tables} (record { fat = fat.entry.now; fats = fats.now; difats = difats.now; frees = frees.now; marks = marks.now }) (tables_in case.now) }
+    ensures { result ≡ true → ◌≡◌ {A = Tables} (record { fat = fat.now; fats = fats.now; difats = difats.now; frees = frees.now; marks = marks.now }) (tables_in case.now) }
 {
     if !same_table(fat, &case[616..712]) {
         return false;
@@ -129,7 +129,7 @@ fn record_says(
     marks: &[u8],
 ) -> bool
     requires { length case.now ≡ 1024 }
-    ensures { result ≡ true → Says case.now image.now number state (record { fat = fat.entry.now; fats = fats.now; difats = difats.now; frees = frees.now; marks = marks.now }) }
+    ensures { result ≡ true → Says case.now image.now number state (record { fat = fat.now; fats = fats.now; difats = difats.now; frees = frees.now; marks = marks.now }) }
 {
     let kind = case[0];
     if kind == b'O' {

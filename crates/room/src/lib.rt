@@ -2,7 +2,7 @@
 #![tactic(auto)]
 
 ghost use Rattle.std.specs.Prelude.{◌≡◌, ◌*◌, ◌≤◌, ◌<◌, leb};
-ghost use Rattle.fat.specs.Lists.{most, ceil as ceilOf};
+ghost use Rattle.fat.specs.Lists.{most, ceil as ceil_of};
 ghost use Rattle.room.specs.Needed.{resize_more, write_more};
 ghost use Rattle.disk.specs.Disk.{one_more, count_after};
 
@@ -11,7 +11,7 @@ use disk::disk::needs_difat;
 // How many sectors so many bytes ask for: whole ones, and one more for what is left. S - 1 is added to what is left alone, so that no sum can wrap.
 pub fn sectors_for(s: usize, bytes: u64) -> usize
     requires { (2 ≤ s) × (s ≤ 65536) }
-    ensures { result ≡ ceilOf bytes s }
+    ensures { result ≡ ceil_of bytes s }
 {
     let each = s as u64;
     let whole = bytes / each;

@@ -3,7 +3,7 @@
 
 ghost use Rattle.std.specs.Prelude.{◌≡◌, ◌≤◌};
 ghost use Rattle.consts.specs.Consts.{max_regular};
-ghost use Rattle.walk.specs.Walk.{leads as leadsOn};
+ghost use Rattle.walk.specs.Walk.{leads as leads_on};
 ghost use Rattle.walk.specs.Walked.{Walkable, WalkLeft};
 
 // What a walk answers: how many ids it listed, or the number of a refusal.
@@ -16,7 +16,7 @@ pub enum Walked {
 // Whether a number is END or one of n sectors.
 fn leads(n: usize, e: u32) -> bool
     requires { n ≤ max_regular }
-    ensures { result ≡ leadsOn n e }
+    ensures { result ≡ leads_on n e }
 {
     if e == consts::END_OF_CHAIN {
         return true;

@@ -1,0 +1,23 @@
+use Prim.Native.Nat.{◌≤◌, ◌-◌}
+use mathlib.Core.Path.{◌≡◌, refl}
+use native.Mathlib.Omega.{arith}
+use lib.ListN.{length, get_or}
+use Rattle.lists.specs.Lists.{every}
+use Rattle.points.proofs.Testing.{flag_more}
+use lib.Dec.{eqb}
+use Rattle.agree.specs.Parts.{all_zero}
+use Rattle.agree.proofs.alike.zeros.Goals as goal
+
+pub loop-i-init : goal.loop-i-init
+unfolding every
+loop-i-init c = (omega arith, refl)
+
+pub loop-i-preserved : goal.loop-i-preserved
+loop-i-preserved c = (omega arith, flag_more _ _ _ _ c.loop-i.invariant.1 refl)
+
+pub returns : goal.returns
+unfolding all_zero
+returns c =
+    let l = c.loop-i in
+    let all : l.i ≡ length c.args.xs.now = omega arith in
+    rw all at l.invariant.1

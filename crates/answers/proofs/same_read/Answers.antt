@@ -1,0 +1,24 @@
+-- `same_read` meets its contract: the tests that are passed are the agreement. Assumes nothing.
+use Rattle.std.proofs.Common.{sym, ◌∙◌, rules}
+use Rattle.lists.specs.Lists.{part}
+use Rattle.records.proofs.Held.{never}
+use Rattle.answers.proofs.Agreed.{part_between, version_at, read_agrees}
+use Rattle.answers.proofs.same_read.Goals as goal
+
+pub returns-then-len-gt544 : goal.returns-then-len-gt544
+returns-then-len-gt544 c = never
+
+pub returns-then-number-number_in : goal.returns-then-number-number_in
+returns-then-number-number_in c = never
+
+pub returns-in_default : goal.returns-in_default
+returns-in_default c = never
+
+pub returns : goal.returns
+unfolding part
+returns c =
+    let case = c.args.case.now in
+    let version = version_at _ c.read32.ensures c.from_number-numbered.ensures c.numbered-1.given.1 in
+    λ e.
+    read_agrees case version c.length_in-len.ensures c.mode_in.ensures (part_between case 8 c.length_in-len.result) c.read_from-read.ensures
+    (sym c.number.ensures ∙ c.if-number-number_in.false) c.number_in.ensures (c.same_header.ensures e ∙ c.header_in.ensures)

@@ -1,0 +1,8 @@
+-- The literal is the definition.
+use borrow.Author.Rules.{rules}
+use Rattle.cfb.specs.Face.{no_state}
+use Rattle.cfb.proofs.State.none.Goals as goal
+
+pub returns : goal.returns
+unfolding no_state
+returns c = rw c.none-header.ensures

@@ -1,0 +1,10 @@
+-- Each answer of the walk is handed on as its case.
+use Rattle.cfb.proofs.Answering.{answer_listed, answer_refused}
+use borrow.Author.Rules.{rules}
+use Rattle.cfb.proofs.calls.answer_of.Goals as goal
+
+pub returns-in-Listed : goal.returns-in-Listed
+returns-in-Listed c = answer_listed _ _ _ c.walked-1.given.1
+
+pub returns-in-Refused : goal.returns-in-Refused
+returns-in-Refused c = answer_refused _ _ _ c.walked-in-Refused-1.given.1

@@ -1,0 +1,84 @@
+-- Opening the chain gives its own numbers; 26 comes behind 11 and 19, and 25 behind all of them.
+use Prim.Native.Nat.{ℕ}
+use mathlib.Core.Path.{◌≡◌, sym, ◌∙◌, ap}
+use mathlib.Core.Bool.{Bool}
+use mathlib.Core.Logic.{inl, inr, ◌≢◌}
+use native.Mathlib.Omega.{arith}
+use borrow.Author.Tests.{not-true, not-false}
+use lib.ListN.{length, replicate}
+use Rattle.lists.specs.Lists.{choose}
+use Rattle.alloc.specs.Opening.{Tables}
+use Rattle.cfb.specs.Calls.{chain_no}
+use Rattle.cfb.specs.Changes.{change_no}
+use Rattle.cfb.proofs.Refusing.{refused_early, refused_mode, refused_walk, refused_start, start_marked, listed_number, change_same, change_refused}
+use borrow.Author.Rules.{rules}
+use Rattle.cfb.proofs.changes.change_of.Goals as goal
+use Rattle.cfb.proofs.changes.change_of.Goals.{After-chain_of-walked, After-is_marked, After-is_strict, After-number_of-no}
+
+abbrev tables : After-chain_of-walked → Tables
+tables c = record { fat = c.args.fat.now; fats = c.args.fats.now; difats = c.args.difats.now; frees = c.args.frees.now; marks = c.args.marks.now }
+
+-- the number is that of opening the chain
+told : (c : After-number_of-no) → let tables : Tables = record { fat = c.args.fat.now; fats = c.args.fats.now; difats = c.args.difats.now; frees = c.args.frees.now; marks = c.args.marks.now } in chain_no c.args.s c.args.image.now tables (length c.args.ids.now) c.args.start ≡ c.number_of-no.result
+told c =
+    let tables : Tables = record { fat = c.args.fat.now; fats = c.args.fats.now; difats = c.args.difats.now; frees = c.args.frees.now; marks = c.args.marks.now } in
+    listed_number _ _ tables _ _ _ _ c.chain_of-walked.ensures _ c.number_of-no.ensures
+
+not_11 : (c : After-is_strict) → let tables : Tables = record { fat = c.args.fat.now; fats = c.args.fats.now; difats = c.args.difats.now; frees = c.args.frees.now; marks = c.args.marks.now } in chain_no c.args.s c.args.image.now tables (length c.args.ids.now) c.args.start ≢ 11
+not_11 c e =
+    let tables : Tables = record { fat = c.args.fat.now; fats = c.args.fats.now; difats = c.args.difats.now; frees = c.args.frees.now; marks = c.args.marks.now } in
+    let told : chain_no c.args.s c.args.image.now tables (length c.args.ids.now) c.args.start ≡ c.number_of-no.result = listed_number _ _ tables _ _ _ _ c.chain_of-walked.ensures _ c.number_of-no.ensures in
+    c.if-no-eq11.false (sym told ∙ e)
+
+not_19 : (c : After-is_strict) → let tables : Tables = record { fat = c.args.fat.now; fats = c.args.fats.now; difats = c.args.difats.now; frees = c.args.frees.now; marks = c.args.marks.now } in chain_no c.args.s c.args.image.now tables (length c.args.ids.now) c.args.start ≢ 19
+not_19 c e =
+    let tables : Tables = record { fat = c.args.fat.now; fats = c.args.fats.now; difats = c.args.difats.now; frees = c.args.frees.now; marks = c.args.marks.now } in
+    let told : chain_no c.args.s c.args.image.now tables (length c.args.ids.now) c.args.start ≡ c.number_of-no.result = listed_number _ _ tables _ _ _ _ c.chain_of-walked.ensures _ c.number_of-no.ensures in
+    c.if-no-eq19.false (sym told ∙ e)
+
+list_kept : (c : After-is_strict) → length c.chain_of-walked.new.ids ≡ length c.args.ids.now
+list_kept c = c.chain_of-walked.auto.ids
+
+change-is : (c : After-is_marked) → let tables : Tables = record { fat = c.args.fat.now; fats = c.args.fats.now; difats = c.args.difats.now; frees = c.args.frees.now; marks = c.args.marks.now } in change_no c.args.s c.args.image.now tables (length c.args.ids.now) c.args.start ≡ choose c.is_marked.result 25 0
+change-is c =
+    let tables : Tables = record { fat = c.args.fat.now; fats = c.args.fats.now; difats = c.args.difats.now; frees = c.args.frees.now; marks = c.args.marks.now } in
+    let told : chain_no c.args.s c.args.image.now tables (length c.args.ids.now) c.args.start ≡ c.number_of-no.result = listed_number _ _ tables _ _ _ _ c.chain_of-walked.ensures _ c.number_of-no.ensures in
+    let not_19 : chain_no c.args.s c.args.image.now tables (length c.args.ids.now) c.args.start ≢ 19 = λ e. c.if-no-eq19.false (sym told ∙ e) in
+    let not_11 : chain_no c.args.s c.args.image.now tables (length c.args.ids.now) c.args.start ≢ 11 = λ e. c.if-no-eq11.false (sym told ∙ e) in
+    let z = told ∙ c.if-no-ne0.false in
+    refused_start _ _ tables _ _ not_11 not_19 (sym c.is_strict.ensures ∙ c.if-not-is_strict.false) z
+    ∙ ap (λ (b : Bool). choose b 25 0) (sym (start_marked _ _ tables _ _ z) ∙ sym c.is_marked.ensures)
+
+pub returns-then-no-eq11 : goal.returns-then-no-eq11
+returns-then-no-eq11 c =
+    let passed = goal.at.returns-then-no-eq11 c in
+    change_same _ _ (tables passed.After-chain_of-walked) _ _ _ _ c.chain_of-walked.ensures (refused_early _ _ (tables passed.After-chain_of-walked) _ _ (inl (told passed.After-number_of-no ∙ c.if-no-eq11.true)))
+
+pub returns-then-no-eq19 : goal.returns-then-no-eq19
+returns-then-no-eq19 c =
+    let passed = goal.at.returns-then-no-eq19 c in
+    change_same _ _ (tables passed.After-chain_of-walked) _ _ _ _ c.chain_of-walked.ensures (refused_early _ _ (tables passed.After-chain_of-walked) _ _ (inr (told passed.After-number_of-no ∙ c.if-no-eq19.true)))
+
+pub returns-then-not-is_strict : goal.returns-then-not-is_strict
+returns-then-not-is_strict c =
+    let passed = goal.at.returns-then-not-is_strict c in
+    change_refused _ _ (tables passed.After-chain_of-walked) _ _ 26 _ (refused_mode _ _ (tables passed.After-chain_of-walked) _ _ (not_11 passed.After-is_strict) (not_19 passed.After-is_strict) (sym c.is_strict.ensures ∙ c.if-not-is_strict.true)) (λ z. omega arith) (λ z. omega arith)
+    (c.fill32.ensures ∙ ap (λ (n : ℕ). replicate n 0) (list_kept passed.After-is_strict))
+
+pub returns-then-no-ne0 : goal.returns-then-no-ne0
+returns-then-no-ne0 c =
+    let passed = goal.at.returns-then-no-ne0 c in
+    change_same _ _ (tables passed.After-chain_of-walked) _ _ _ _ c.chain_of-walked.ensures
+    (refused_walk _ _ (tables passed.After-chain_of-walked) _ _ (not_11 passed.After-is_strict) (not_19 passed.After-is_strict) (sym c.is_strict.ensures ∙ c.if-not-is_strict.false) (λ z. c.if-no-ne0.true (sym (told passed.After-number_of-no) ∙ z)))
+
+pub returns-then-is_marked : goal.returns-then-is_marked
+returns-then-is_marked c =
+    let passed = goal.at.returns-then-is_marked c in
+    change_refused _ _ (tables passed.After-chain_of-walked) _ _ 25 _ (change-is passed.After-is_marked ∙ ap (λ (b : Bool). choose b 25 0) c.if-is_marked.true) (λ z. omega arith) (λ z. omega arith)
+    (c.fill32-then-is_marked.ensures ∙ ap (λ (n : ℕ). replicate n 0) (list_kept passed.After-is_strict))
+
+pub returns : goal.returns
+returns c =
+    let passed = goal.at.returns c in
+    change_same _ _ (tables passed.After-chain_of-walked) _ _ _ _ c.chain_of-walked.ensures
+    (change-is passed.After-is_marked ∙ ap (λ (b : Bool). choose b 25 0) c.if-is_marked.false ∙ sym (told passed.After-number_of-no ∙ c.if-no-ne0.false))

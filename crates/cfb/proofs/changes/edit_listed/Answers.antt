@@ -1,0 +1,52 @@
+-- A refusal is handed on; an edit that begins past the end and a lack of room are rows 23 and 24.
+use mathlib.Core.Path.{◌≡◌, sym, ◌∙◌, ap}
+use native.Mathlib.Omega.{arith}
+use Rattle.walk.specs.declared.Walked.TheVariants.{Listed}
+use Rattle.moves.specs.Change.{edit_more}
+use Rattle.cfb.specs.Changes.{no_room}
+use Rattle.cfb.proofs.Fitted.{length_least, length_most}
+use Rattle.cfb.proofs.Judging.{seeks_past, seeks_within, edit_early, edit_past, edit_full, edit_listed}
+use Rattle.cfb.proofs.Ready.{listing_room, listing_small}
+use borrow.Author.Rules.{rules}
+use Rattle.cfb.proofs.changes.edit_listed.Goals as goal
+use Rattle.cfb.proofs.changes.edit_listed.Goals.{After-len_of-len, After-no_room}
+
+-- the count is that of the listing
+walked-is : (c : After-len_of-len) → c.args.walked ≡ Listed c.walked-1.given.0.0
+walked-is c = c.walked-1.given.1
+
+-- whether there is room is that of the row
+room-is : (c : After-no_room) → c.no_room.result ≡ no_room c.args.s c.args.lent (edit_more c.len_of-len.result c.walked-1.given.0.0 c.args.edit c.args.bytes)
+room-is c = c.no_room.ensures ∙ ap (no_room _ _) c.more_of.ensures
+
+pub returns-in_default : goal.returns-in_default
+returns-in_default c = λ l. edit_early _ _ _ _ l c.args.edit c.args.bytes _ c.enum_told-1.given.1
+
+pub overflow_mul-len : goal.overflow_mul-len
+overflow_mul-len c = omega (arith, listing_small _ _ _ _ c.requires _ (walked-is c) c.len_of-len.ensures)
+
+pub returns-then-len-count : goal.returns-then-len-count
+returns-then-len-count c =
+    let passed = goal.at.returns-then-len-count c in
+    λ l. edit_past _ _ _ _ l _ (walked-is passed.After-len_of-len) _ c.len_of-len.ensures _ _ _ (seeks_past _ _ _ c.seek_of.ensures c.if-len-count.true) c.fill32.ensures
+
+pub more_of-requires : goal.more_of-requires
+more_of-requires c =
+    let passed = goal.at.more_of-requires c in
+    let v = c.args.s.header.version in
+    (omega (arith, c.len_of-len.ensures, length_least v), omega (arith, c.len_of-len.ensures, length_most v), seeks_within _ _ _ c.seek_of.ensures c.if-len-count.false, omega (arith, listing_small _ _ _ _ c.requires _ (walked-is passed.After-len_of-len) c.len_of-len.ensures))
+
+pub no_room-requires : goal.no_room-requires
+no_room-requires c =
+    let passed = goal.at.no_room-requires c in
+    listing_room _ _ _ _ c.requires _ (walked-is passed.After-len_of-len)
+
+pub returns-then-no_room : goal.returns-then-no_room
+returns-then-no_room c =
+    let passed = goal.at.returns-then-no_room c in
+    λ l. edit_full _ _ _ _ l _ (walked-is passed.After-len_of-len) _ c.len_of-len.ensures _ _ _ (seeks_within _ _ _ c.seek_of.ensures c.if-len-count.false) (sym (room-is passed.After-no_room) ∙ c.if-no_room.true) c.fill32-then-no_room.ensures
+
+pub returns : goal.returns
+returns c =
+    let passed = goal.at.returns c in
+    λ l. edit_listed _ _ _ _ l _ (walked-is passed.After-len_of-len) _ c.len_of-len.ensures _ _ (seeks_within _ _ _ c.seek_of.ensures c.if-len-count.false) (sym (room-is passed.After-no_room) ∙ c.if-no_room.false)

@@ -1,0 +1,10 @@
+-- A write begins at its offset, a resize at the chain's start.
+use Rattle.cfb.proofs.Judging.{seek_write, seek_resize}
+use borrow.Author.Rules.{rules}
+use Rattle.cfb.proofs.changes.seek_of.Goals as goal
+
+pub returns-in-Write : goal.returns-in-Write
+returns-in-Write c = seek_write _ _ c.edit-1.given.1
+
+pub returns-in-Resize : goal.returns-in-Resize
+returns-in-Resize c = seek_resize _ _ c.enum_told-1.given.1

@@ -1,0 +1,19 @@
+-- Words that hold no state are refused by 19; else the call on the state that they hold decides, and its answer and state are given as words.
+use mathlib.Core.Path.{sym, ◌∙◌}
+use borrow.Author.Tests.{not-true, not-false}
+use Rattle.export.proofs.Changing.{change_refused, edit_given}
+use borrow.Author.Rules.{rules}
+use Rattle.export.proofs.change_chain.Goals as goal
+
+pub returns-then-not-holds_state : goal.returns-then-not-holds_state
+returns-then-not-holds_state c =
+    change_refused _ _ _ _ _ _ _ _ _ c.holds_state.ensures (c.if-not-holds_state.true) c.fill32.ensures
+
+pub state_in-held-requires : goal.state_in-held-requires
+state_in-held-requires c = sym c.holds_state.ensures ∙ c.if-not-holds_state.false
+
+pub returns : goal.returns
+returns c =
+    let held = c.state_in-held.ensures in
+    let told = c.give.ensures in
+    edit_given _ _ _ _ _ _ _ _ _ _ c.holds_state.ensures (c.if-not-holds_state.false) held.0 held.1 _ _ _ told.0 told.1.0 told.1.1 _ c.args.edit c.args.buf.now c.change-called.ensures

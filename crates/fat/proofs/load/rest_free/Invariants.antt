@@ -1,0 +1,22 @@
+-- The invariant: the flag says whether the first j places of the DIFAT sectors past the k are all FREE.
+use Prim.Native.Nat.{ℕ, ◌+◌, ◌-◌, ◌*◌, ◌≤◌}
+use mathlib.Core.Path.{◌≡◌, refl, ◌∙◌, ap}
+use native.Mathlib.Omega.{arith}
+use borrow.Author.Rules.{rules}
+use lib.Dec.{eqb}
+use lib.ListN.{length}
+use Rattle.lists.specs.Lists.{every}
+use Rattle.consts.specs.Consts.{free_sector}
+use Rattle.sectors.specs.Sectors.{per_sector}
+use Rattle.fat.specs.Lists.{place_at, rest_free}
+use Rattle.fat.proofs.Differing.{compared}
+use Rattle.fat.proofs.Loading.{fewer_places}
+use Rattle.fat.proofs.load.rest_free.Given as goal
+
+abbrev pub invariant-loop-j : goal.invariant-loop-j
+invariant-loop-j l =
+    (l.over ≡ l.k - 109) × (l.count ≡ length l.difats * (per_sector l.s - 1) - (l.k - 109)) × (l.j ≤ l.count)
+    × (l.free ≡ every l.j (λ i. eqb (place_at l.s l.image l.list l.difats (109 + (l.k - 109) + i)) free_sector))
+
+abbrev pub decreases-loop-j : goal.decreases-loop-j
+decreases-loop-j l = l.count - l.j

@@ -1,0 +1,73 @@
+-- Each test is the next row of the table of refusals: at a return the rows before it are passed and its own holds. Where all are passed the content is that of the bytes.
+use Prim.Native.Nat.{ℕ, ◌≤◌}
+use mathlib.Core.Path.{◌≡◌, sym, ◌∙◌, ap}
+use mathlib.Core.Bool.{true}
+use mathlib.Core.List.{List}
+use native.Mathlib.Omega.{arith}
+use borrow.Author.Tests.{not-true, not-false}
+use lib.ListN.{length}
+use Rattle.lists.specs.Lists.{part, same_list}
+use Rattle.lists.specs.Rows.{Row, refusal}
+use Rattle.consts.specs.Consts.{signature}
+use Rattle.fields.specs.Fields.{list_of, ids_then_free}
+use Rattle.header.specs.Read.{fixed_of, fixed_rows, read_number, header_of}
+use Rattle.header.specs.declared.judge.Fixed.{Fixed}
+use Rattle.header.specs.declared.Header.{Header}
+use Rattle.header.specs.declared.ReadVerdict.TheVariants.{Short, Signature, Entries}
+use Rattle.header.proofs.Reading.{gives_1, gives_2, gives_fixed, gives_9, gives_0, says_no, says_yes}
+use borrow.Author.Rules.{rules}
+use Rattle.header.proofs.Header.read_from.Goals as goal
+use Rattle.header.proofs.Header.read_from.Goals.{After-ids_then_free, After-judge-verdict, Else-not-signed, Else-number-ne0}
+
+abbrev bytes : Else-not-signed → List ℕ
+bytes c = c.args.b.now
+
+whole : (c : Else-not-signed) → 512 ≤ length (bytes c)
+whole c = c.if-b-lt-HEADER_LEN.false
+
+signed : (c : Else-not-signed) → same_list (part (bytes c) 0 8) signature ≡ true
+signed c = sym c.signed.ensures ∙ c.if-not-signed.false
+
+-- what the judge says, and what it said where it refused nothing
+abbrev rows : Else-not-signed → List Row
+rows c = fixed_rows c.args.validation (fixed_of (bytes c))
+
+judged : (c : After-judge-verdict) → let bytes : List ℕ = c.args.b.now in let rows : List Row = fixed_rows c.args.validation (fixed_of bytes) in read_number c.judge-verdict.result ≡ refusal rows
+judged c = c.judge-verdict.ensures ∙ ap (λ (f : Fixed). refusal (fixed_rows c.args.validation f)) c.judged_by.ensures
+
+passed : (c : Else-number-ne0) → let bytes : List ℕ = c.args.b.now in let rows : List Row = fixed_rows c.args.validation (fixed_of bytes) in 0 ≡ refusal rows
+passed c =
+    let bytes : List ℕ = c.args.b.now in
+    let rows : List Row = fixed_rows c.args.validation (fixed_of bytes) in
+    let judged : read_number c.judge-verdict.result ≡ refusal rows = c.judge-verdict.ensures ∙ ap (λ (f : Fixed). refusal (fixed_rows c.args.validation f)) c.judged_by.ensures in
+    sym (sym c.number.ensures ∙ c.if-number-ne0.false) ∙ judged
+
+listed : (c : After-ids_then_free) → let bytes : List ℕ = c.args.b.now in c.ids_then_free.result ≡ ids_then_free (list_of bytes)
+unfolding header_of
+listed c = c.ids_then_free.ensures ∙ ap (λ (h : Header). ids_then_free h.list) c.content-header.ensures
+
+pub returns-then-b-lt-HEADER_LEN : goal.returns-then-b-lt-HEADER_LEN
+returns-then-b-lt-HEADER_LEN c = says_no _ _ Short _ c.refused.ensures (omega arith) (gives_1 _ _ c.if-b-lt-HEADER_LEN.true)
+
+pub returns-then-not-signed : goal.returns-then-not-signed
+returns-then-not-signed c =
+    says_no _ _ Signature _ c.refused-then-not-signed.ensures (omega arith)
+    (gives_2 _ _ c.if-b-lt-HEADER_LEN.false (sym c.signed.ensures ∙ c.if-not-signed.true))
+
+pub returns-then-number-ne0 : goal.returns-then-number-ne0
+returns-then-number-ne0 c =
+    let passed = goal.at.returns-then-number-ne0 c in
+    let refuses : read_number c.judge-verdict.result ≡ 0 → ⊥ = λ z. c.if-number-ne0.true (c.number.ensures ∙ z) in
+    says_no _ _ c.judge-verdict.result _ c.refused-then-number-ne0.ensures refuses (gives_fixed _ _ (whole passed.Else-not-signed) (signed passed.Else-not-signed) _ (judged passed.After-judge-verdict) refuses)
+
+pub returns-then-not-ids_then_free : goal.returns-then-not-ids_then_free
+returns-then-not-ids_then_free c =
+    let passed = goal.at.returns-then-not-ids_then_free c in
+    says_no _ _ Entries _ c.refused-then-not-ids_then_free.ensures (omega arith)
+    (gives_9 _ _ (whole passed.Else-not-signed) (signed passed.Else-not-signed) (passed passed.Else-number-ne0) (sym (listed passed.After-ids_then_free) ∙ c.if-not-ids_then_free.true))
+
+pub returns : goal.returns
+returns c =
+    let passed = goal.at.returns c in
+    says_yes _ _ _ c.content-header.ensures
+    (gives_0 _ _ (whole passed.Else-not-signed) (signed passed.Else-not-signed) (passed passed.Else-number-ne0) (sym (listed passed.After-ids_then_free) ∙ c.if-not-ids_then_free.false))

@@ -1,0 +1,16 @@
+-- Each arm of the match is one case of the definition.
+use borrow.Author.Tests.{ne_eqb}
+use Rattle.header.specs.Versions.{numbered_of}
+use Rattle.header.proofs.Version.from_number.Goals as goal
+
+pub returns-in-3 : goal.returns-in-3
+unfolding numbered_of
+returns-in-3 c = rw c.in-3.keys1
+
+pub returns-in-4 : goal.returns-in-4
+unfolding numbered_of
+returns-in-4 c = rw c.in-4.keys2
+
+pub returns-in_default : goal.returns-in_default
+unfolding numbered_of
+returns-in_default c = rw (ne_eqb _ _ c.in_default.rest.0.1, ne_eqb _ _ c.in_default.rest.1)

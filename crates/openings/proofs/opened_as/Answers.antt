@@ -1,0 +1,9 @@
+-- `opened_as` meets its contract: the opening's own, and that of the comparison of what it gave. Assumes nothing.
+use Rattle.openings.specs.Openings.{lent_tables}
+use Rattle.openings.proofs.Opened.{opening_said}
+use borrow.Author.Rules.{rules}
+use Rattle.openings.proofs.opened_as.Goals as goal
+
+pub returns : goal.returns
+unfolding lent_tables
+returns c = λ e. opening_said _ _ c.mode_in.ensures c.«open».ensures c.number-number.ensures (c.record_says.ensures e)

@@ -1,0 +1,12 @@
+-- `mode_in` meets its contract: a byte fits a wider number, and `mode_of` gives its mode. Assumes nothing.
+use native.Mathlib.Omega.{arith}
+use Rattle.records.specs.Records.{mode_in}
+use borrow.Author.Rules.{rules}
+use Rattle.records.proofs.mode_in.Goals as goal
+
+pub overflow_cast-case : goal.overflow_cast-case
+overflow_cast-case c = omega (arith, c.shared_slice_known-1.given 1)
+
+pub returns : goal.returns
+unfolding mode_in
+returns c = c.mode_of.ensures

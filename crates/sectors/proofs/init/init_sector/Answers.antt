@@ -1,0 +1,15 @@
+-- Each kind of sector is what its own fill leaves.
+use mathlib.Core.Path.{◌∙◌, sym, ap}
+use Rattle.sectors.specs.Init.{init_bytes}
+use Rattle.sectors.proofs.New.{init_zero, init_fat}
+use borrow.Author.Rules.{rules}
+use Rattle.sectors.proofs.init.init_sector.Goals as goal
+
+pub returns-in-Zero : goal.returns-in-Zero
+returns-in-Zero c = c.fill.ensures ∙ init_zero _ ∙ ap (init_bytes _) (sym c.enum_told-1.given.1)
+
+pub returns-in-Fat : goal.returns-in-Fat
+returns-in-Fat c = c.fill-in-Fat.ensures ∙ init_fat _ c.requires.0 ∙ ap (init_bytes _) (sym c.enum_told-in-Fat-1.given.1)
+
+pub returns-in-Difat : goal.returns-in-Difat
+returns-in-Difat c = c.init_difat.ensures ∙ ap (init_bytes _) (sym c.enum_told-in-Difat-1.given.1)

@@ -1,0 +1,16 @@
+-- `states::state_with` meets its contract: so far the words below i stand behind four zeros.
+use Prim.Native.Nat.{◌≤◌, ◌-◌}
+use mathlib.Core.Path.{◌≡◌, sym}
+use native.Mathlib.Omega.{arith}
+use borrow.Author.Rules.{rules}
+use lib.ListN.{length, take, replicate}
+use Rattle.lists.specs.Lists.{splice}
+use Rattle.lists.proofs.Splice.{splice_nil}
+use Rattle.layout.proofs.Placing.{placed_more, placed_all}
+use Rattle.states.proofs.state_with.Given as goal
+
+abbrev pub invariant-loop-i : goal.invariant-loop-i
+invariant-loop-i l = (l.i ≤ 117) × (l.words ≡ splice (replicate 121 0) 4 (take l.i l.header))
+
+abbrev pub decreases-loop-i : goal.decreases-loop-i
+decreases-loop-i l = 117 - l.i

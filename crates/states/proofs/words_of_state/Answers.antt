@@ -1,0 +1,7 @@
+-- `states::words_of_state` meets its contract: the four numbers are stored over the zeros before the header's words.
+use borrow.Author.Rules.{rules}
+use Rattle.states.proofs.Holding.{state_stored}
+use Rattle.states.proofs.words_of_state.Goals as goal
+
+pub returns : goal.returns
+returns c = state_stored c.args.s c.words_of-held.ensures c.state_with-words.ensures c.number_of_mode.ensures

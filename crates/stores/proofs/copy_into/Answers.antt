@@ -1,0 +1,7 @@
+-- The part that is lent is as long as the run, so it comes back as the run.
+use Rattle.stores.proofs.Writing.{copied_run}
+use borrow.Author.Rules.{rules}
+use Rattle.stores.proofs.copy_into.Goals as goal
+
+pub returns : goal.returns
+returns c = copied_run _ _ _ c.args.x c.requires c.copy.ensures
