@@ -1,4 +1,4 @@
-// The functions that C and Rust call: each takes what it is lent apart, calls the proved library, and gives numbers.
+// What C and Rust call, by the exports of `export_c`: each takes what it is lent apart, calls the proved library, and gives numbers.
 // None asks anything of its caller: every number and every slice has an answer.
 #![tactic(auto)]
 
@@ -21,8 +21,7 @@ use states::told::{give, words_of_answer};
 use states::{holds_state, state_in, words_of_state};
 
 // Reads a header: 0, or the number of the refusal; `words` then hold the header, or what stands beside the refusal. Mode 0 is permissive.
-#[unsafe(no_mangle)]
-pub extern "C" fn rasuvelk_read_header(bytes: &[u8], mode: u32, words: &mut [u32; 117]) -> u32
+pub fn rasuvelk_read_header(bytes: &[u8], mode: u32, words: &mut [u32; 117]) -> u32
     ensures value { result ≡ read_no (mode_of mode) bytes.now }
     ensures words_after { words.new ≡ words_of (header_left (mode_of mode) bytes.now) }
 {
@@ -35,8 +34,7 @@ pub extern "C" fn rasuvelk_read_header(bytes: &[u8], mode: u32, words: &mut [u32
 }
 
 // Writes a header over the first 512 bytes: 0, or the number of the refusal, which leaves every byte. A version that is none is judged first.
-#[unsafe(no_mangle)]
-pub extern "C" fn rasuvelk_write_header(words: &[u32; 117], buf: &mut [u8]) -> u32
+pub fn rasuvelk_write_header(words: &[u32; 117], buf: &mut [u8]) -> u32
     ensures value { result ≡ written_no words.now (length buf.old) }
     ensures buf_after { buf.new ≡ bytes_left words.now buf.old }
 {
@@ -51,8 +49,7 @@ pub extern "C" fn rasuvelk_write_header(words: &[u32; 117], buf: &mut [u8]) -> u
 }
 
 // Opens an image of which `used` bytes are used: 0, or the number of the refusal; `state` then holds the state's words, and the tables what the opening leaves in them. Mode 0 is permissive.
-#[unsafe(no_mangle)]
-pub extern "C" fn rasuvelk_open(
+pub fn rasuvelk_open(
     image: &[u8],
     used: usize,
     mode: u32,
@@ -74,8 +71,7 @@ pub extern "C" fn rasuvelk_open(
 }
 
 // Opens a chain from `start` on: 0, or the number of the refusal; `answer` then holds how many ids, the start and 0, or zeros, and `ids` what the call leaves in it. Words that hold no state are refused by 19 before anything else, and `ids` are zeros then.
-#[unsafe(no_mangle)]
-pub extern "C" fn rasuvelk_open_chain(
+pub fn rasuvelk_open_chain(
     state: &[u64; 121],
     image: &[u8],
     fat: &[u32],
@@ -104,8 +100,7 @@ pub extern "C" fn rasuvelk_open_chain(
 }
 
 // Reads a chain from byte `offset` on into the front of `buf`: 0, or the number of the refusal, which leaves `buf`; `answer` then holds how many ids, the start and how many bytes were read, or zeros. Words that hold no state are refused by 19 as above.
-#[unsafe(no_mangle)]
-pub extern "C" fn rasuvelk_read_chain(
+pub fn rasuvelk_read_chain(
     state: &[u64; 121],
     image: &[u8],
     fat: &[u32],
@@ -168,8 +163,7 @@ fn change_chain(
 }
 
 // Writes all of `buf` over a chain's bytes from byte `offset` on: 0, or the number of the refusal, which leaves all but `ids` and `answer`; `state` then holds the words of the state after the write, and `answer` how many ids, the start and how many bytes were written, or zeros. Words that hold no state are refused by 19 as above.
-#[unsafe(no_mangle)]
-pub extern "C" fn rasuvelk_write_chain(
+pub fn rasuvelk_write_chain(
     state: &mut [u64; 121],
     image: &mut [u8],
     fat: &mut [u32],
@@ -202,8 +196,7 @@ pub extern "C" fn rasuvelk_write_chain(
 }
 
 // Resizes a chain to the sectors that `length` bytes ask for: 0, or the number of the refusal, likewise; no bytes are told of.
-#[unsafe(no_mangle)]
-pub extern "C" fn rasuvelk_resize_chain(
+pub fn rasuvelk_resize_chain(
     state: &mut [u64; 121],
     image: &mut [u8],
     fat: &mut [u32],
@@ -236,8 +229,7 @@ pub extern "C" fn rasuvelk_resize_chain(
 }
 
 // Frees a whole chain: resizes it to 0.
-#[unsafe(no_mangle)]
-pub extern "C" fn rasuvelk_free_chain(
+pub fn rasuvelk_free_chain(
     state: &mut [u64; 121],
     image: &mut [u8],
     fat: &mut [u32],
@@ -269,16 +261,14 @@ pub extern "C" fn rasuvelk_free_chain(
 }
 
 // The kind of an entry: 0 regular, 1 reserved, 2 DIFAT, 3 FAT, 4 END, 5 FREE.
-#[unsafe(no_mangle)]
-pub extern "C" fn rasuvelk_kind_of(entry: u32) -> u32
+pub fn rasuvelk_kind_of(entry: u32) -> u32
     ensures { result ≡ kind_number (kind_of entry) }
 {
     number_of_kind(consts::kind_of(entry))
 }
 
 // The item that begins at `at`: its number, 0 where none does; its two numbers and the place past it are left in `item`.
-#[unsafe(no_mangle)]
-pub extern "C" fn rasuvelk_prettify(sectors: &[u32], at: usize, item: &mut [u64; 3]) -> u32
+pub fn rasuvelk_prettify(sectors: &[u32], at: usize, item: &mut [u64; 3]) -> u32
     ensures value { result ≡ item_number (item_at sectors.now at) }
     ensures item_after { item.new ≡ item_numbers (item_at sectors.now at) }
 {
@@ -289,8 +279,7 @@ pub extern "C" fn rasuvelk_prettify(sectors: &[u32], at: usize, item: &mut [u64;
 }
 
 // The length of an item's text; the text is left in `out`, and zeros after it. No item has no text.
-#[unsafe(no_mangle)]
-pub extern "C" fn rasuvelk_sector_text(kind: u32, a: u64, b: u64, out: &mut [u8; 32]) -> usize
+pub fn rasuvelk_sector_text(kind: u32, a: u64, b: u64, out: &mut [u8; 32]) -> usize
     ensures value { result ≡ (named_text (named_of kind a b)).len }
     ensures out_after { out.new ≡ (named_text (named_of kind a b)).bytes }
 {

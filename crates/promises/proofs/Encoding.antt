@@ -290,7 +290,7 @@ module _ (S R : ℕ) (d : Disk) (f : FitsWhole S R d) where
 
     first_none : j ≡ 0 → Ends (header_of img).difat
     unfolding header_of
-    first_none z = ends_after (number_at img difat_at) (ends_own _ _ (ap (λ (x : ℕ). le 4 img (link_place S d.difats x)) z ∙ link_first) c.links.new)
+    first_none z = ends_after (number_at img difat_at) (ends_own _ _ (ap (λ (x : ℕ). le 4 img (link_place S d.difats x)) z ∙ link_first) c.links.last)
 
     first_some : 0 < j → (header_of img).difat ≡ get_or (difats_list S d) 0 0
     unfolding header_of

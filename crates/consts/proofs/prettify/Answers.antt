@@ -10,25 +10,25 @@ pub returns-then-sectors-at : goal.returns-then-sectors-at
 returns-then-sectors-at c = item_past _ _ c.if-sectors-at.true
 
 pub returns-in-4294967294 : goal.returns-in-4294967294
-returns-in-4294967294 c = item_end _ _ c.if-sectors-at.false c.in-4294967294.keys1
+returns-in-4294967294 c = item_end _ _ c.if-sectors-at.false c.in-4294967294.is
 
 pub overflow_add-result-in-4294967295 : goal.overflow_add-result-in-4294967295
 overflow_add-result-in-4294967295 c = omega (arith, run_within free_sector _ _ _ c.if-sectors-at.false c.run_of-n.ensures)
 
 pub returns-in-4294967295 : goal.returns-in-4294967295
-returns-in-4294967295 c = item_count counts_free _ _ _ c.if-sectors-at.false c.in-4294967295.keys2 c.run_of-n.ensures
+returns-in-4294967295 c = item_count counts_free _ _ _ c.if-sectors-at.false c.in-4294967295.is c.run_of-n.ensures
 
 pub overflow_add-result-in-4294967292 : goal.overflow_add-result-in-4294967292
 overflow_add-result-in-4294967292 c = omega (arith, run_within difat_sector _ _ _ c.if-sectors-at.false c.run_of-n-in-4294967292.ensures)
 
 pub returns-in-4294967292 : goal.returns-in-4294967292
-returns-in-4294967292 c = item_count counts_difat _ _ _ c.if-sectors-at.false c.in-4294967292.keys3 c.run_of-n-in-4294967292.ensures
+returns-in-4294967292 c = item_count counts_difat _ _ _ c.if-sectors-at.false c.in-4294967292.is c.run_of-n-in-4294967292.ensures
 
 pub overflow_add-result-in-4294967293 : goal.overflow_add-result-in-4294967293
 overflow_add-result-in-4294967293 c = omega (arith, run_within fat_sector _ _ _ c.if-sectors-at.false c.run_of-n-in-4294967293.ensures)
 
 pub returns-in-4294967293 : goal.returns-in-4294967293
-returns-in-4294967293 c = item_count counts_fat _ _ _ c.if-sectors-at.false c.in-4294967293.keys4 c.run_of-n-in-4294967293.ensures
+returns-in-4294967293 c = item_count counts_fat _ _ _ c.if-sectors-at.false c.in-4294967293.is c.run_of-n-in-4294967293.ensures
 
 pub overflow_sub-result : goal.overflow_sub-result
 overflow_sub-result c = (range_within _ _ _ _ c.if-sectors-at.false c.range_end-end.ensures).0

@@ -9,4 +9,4 @@ pub returns : goal.returns
 returns c =
     let says = c.read_from-read.ensures in
     let mode = c.mode_of.ensures in
-    record {value = c.number.ensures ∙ reading_number says mode; words_after = c.words_of-held.ensures ∙ ap words_of (reading_header says mode) }
+    record { value = c.number.ensures ∙ reading_number says mode; words_after = c.words_of-held.ensures ∙ ap words_of (reading_header says mode) }

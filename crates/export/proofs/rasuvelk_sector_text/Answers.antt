@@ -8,4 +8,4 @@ use Rattle.export.proofs.rasuvelk_sector_text.Goals as goal
 pub returns : goal.returns
 returns c =
     let text = c.named_text-text.ensures ∙ ap named_text c.item_named.ensures in
-    record {value = ap (λ (t : Text). t.len) text; out_after = ap (λ (t : Text). t.bytes) text }
+    record { value = ap (λ (t : Text). t.len) text; out_after = ap (λ (t : Text). t.bytes) text }

@@ -9,7 +9,7 @@ returns-in_default c =
     let words = c.args.words.now in
     let numbered = c.from_number-numbered.ensures in
     let none = c.enum_told-1.given.1 in
-    record {value = unwritten_number words _ numbered none; buf_after = unwritten_bytes words _ numbered none }
+    record { value = unwritten_number words _ numbered none; buf_after = unwritten_bytes words _ numbered none }
 
 pub returns : goal.returns
 returns c =
@@ -18,4 +18,4 @@ returns c =
     let version = c.numbered-1.given.1 in
     let header = c.header_with-header.ensures in
     let says = c.write_to-verdict.ensures in
-    record {value = c.number.ensures ∙ written_number words numbered version header says; buf_after = written_bytes words numbered version header says }
+    record { value = c.number.ensures ∙ written_number words numbered version header says; buf_after = written_bytes words numbered version header says }

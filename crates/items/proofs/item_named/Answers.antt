@@ -7,23 +7,23 @@ use Rattle.items.proofs.item_named.Goals as goal
 
 pub returns-in-1 : goal.returns-in-1
 unfolding named_of
-returns-in-1 c = named_at 1 c.args.a c.args.b c.in-1.keys1
+returns-in-1 c = named_at 1 c.args.a c.args.b c.in-1.is
 
 pub returns-in-2 : goal.returns-in-2
 unfolding named_of
-returns-in-2 c = named_at 2 c.args.a c.args.b c.in-2.keys2
+returns-in-2 c = named_at 2 c.args.a c.args.b c.in-2.is
 
 pub returns-in-3 : goal.returns-in-3
 unfolding named_of
-returns-in-3 c = named_at 3 c.args.a c.args.b c.in-3.keys3
+returns-in-3 c = named_at 3 c.args.a c.args.b c.in-3.is
 
 pub returns-in-4 : goal.returns-in-4
 unfolding named_of
-returns-in-4 c = named_at 4 c.args.a c.args.b c.in-4.keys4
+returns-in-4 c = named_at 4 c.args.a c.args.b c.in-4.is
 
 pub returns-in-5 : goal.returns-in-5
 unfolding named_of
-returns-in-5 c = c.named_range.ensures ∙ named_at 5 c.args.a c.args.b c.in-5.keys5
+returns-in-5 c = c.named_range.ensures ∙ named_at 5 c.args.a c.args.b c.in-5.is
 
 pub returns-in_default : goal.returns-in_default
 returns-in_default c = let others = c.in_default.rest in named_none _ _ _ others.0.0.0.0.1 others.0.0.0.1 others.0.0.1 others.0.1 others.1

@@ -4,4 +4,4 @@ use borrow.Author.Rules.{rules}
 use Rattle.items.proofs.item_numbers.Goals as goal
 
 pub returns-in-Next : goal.returns-in-Next
-returns-in-Next c = numbers_of_next c.found-1.given.1 c.first_of_sector.ensures c.last_of_sector.ensures
+returns-in-Next c = numbers_of_next c.in-Next.is c.first_of_sector.ensures c.last_of_sector.ensures

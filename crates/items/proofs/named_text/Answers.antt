@@ -5,8 +5,8 @@ use borrow.Author.Rules.{rules}
 use Rattle.items.proofs.named_text.Goals as goal
 
 pub returns-in-Known : goal.returns-in-Known
-returns-in-Known c = text_of_known c.asked-1.given.1 c.text_of.ensures
+returns-in-Known c = text_of_known c.in-Known.is c.text_of.ensures
 
 pub returns-in-Unknown : goal.returns-in-Unknown
 unfolding written
-returns-in-Unknown c = text_of_unknown c.enum_told-1.given.1
+returns-in-Unknown c = text_of_unknown c.in-Unknown.is

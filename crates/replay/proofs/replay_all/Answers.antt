@@ -11,7 +11,7 @@ pub returns-in-Ended : goal.returns-in-Ended
 returns-in-Ended c = c.loop-answers.invariant.2
 
 pub loop-answers-preserved-in-Same : goal.loop-answers-preserved-in-Same
-loop-answers-preserved-in-Same c = (omega arith, omega arith, Replays.same _ (c.replay_next-next.ensures c.enum_told-in-Same-1.given.1) c.loop-answers.invariant.2)
+loop-answers-preserved-in-Same c = (omega arith, omega arith, Replays.same _ (c.replay_next-next.ensures c.in-Same.is) c.loop-answers.invariant.2)
 
 pub loop-answers-preserved : goal.loop-answers-preserved
 loop-answers-preserved c = (omega arith, omega arith, Replays.differs c.loop-answers.invariant.2)

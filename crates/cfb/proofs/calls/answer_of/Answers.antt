@@ -4,7 +4,7 @@ use borrow.Author.Rules.{rules}
 use Rattle.cfb.proofs.calls.answer_of.Goals as goal
 
 pub returns-in-Listed : goal.returns-in-Listed
-returns-in-Listed c = answer_listed _ _ _ c.walked-1.given.1
+returns-in-Listed c = answer_listed _ _ _ c.in-Listed.is
 
 pub returns-in-Refused : goal.returns-in-Refused
-returns-in-Refused c = answer_refused _ _ _ c.walked-in-Refused-1.given.1
+returns-in-Refused c = answer_refused _ _ _ c.in-Refused.is

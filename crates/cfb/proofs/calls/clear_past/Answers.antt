@@ -4,7 +4,7 @@ use Rattle.cfb.proofs.Clearing.{cleared_listed, cleared_refused}
 use Rattle.cfb.proofs.calls.clear_past.Goals as goal
 
 pub returns-in-Listed : goal.returns-in-Listed
-returns-in-Listed c = cleared_listed _ _ _ _ c.walked-1.given.1 c.zero_from.ensures
+returns-in-Listed c = cleared_listed _ _ _ _ c.in-Listed.is c.zero_from.ensures
 
 pub returns-in-Refused : goal.returns-in-Refused
-returns-in-Refused c = cleared_refused _ _ _ _ c.enum_told-1.given.1 c.zero_from-in-Refused.ensures
+returns-in-Refused c = cleared_refused _ _ _ _ c.in-Refused.is c.zero_from-in-Refused.ensures

@@ -4,7 +4,7 @@ use borrow.Author.Rules.{rules}
 use Rattle.cfb.proofs.changes.bytes_of.Goals as goal
 
 pub returns-in-Write : goal.returns-in-Write
-returns-in-Write c = bytes_write _ _ _ c.enum_told-1.given.1
+returns-in-Write c = bytes_write _ _ _ c.in-Write.is
 
 pub returns-in-Resize : goal.returns-in-Resize
-returns-in-Resize c = bytes_resize _ _ _ c.enum_told-in-Resize-1.given.1
+returns-in-Resize c = bytes_resize _ _ _ c.in-Resize.is

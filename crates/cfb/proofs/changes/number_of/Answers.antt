@@ -4,7 +4,7 @@ use borrow.Author.Rules.{rules}
 use Rattle.cfb.proofs.changes.number_of.Goals as goal
 
 pub returns-in-Listed : goal.returns-in-Listed
-returns-in-Listed c = number_listed _ _ c.enum_told-1.given.1
+returns-in-Listed c = number_listed _ _ c.in-Listed.is
 
 pub returns-in-Refused : goal.returns-in-Refused
-returns-in-Refused c = number_refused _ _ c.walked-1.given.1
+returns-in-Refused c = number_refused _ _ c.in-Refused.is

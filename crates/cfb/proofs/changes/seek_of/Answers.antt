@@ -4,7 +4,7 @@ use borrow.Author.Rules.{rules}
 use Rattle.cfb.proofs.changes.seek_of.Goals as goal
 
 pub returns-in-Write : goal.returns-in-Write
-returns-in-Write c = seek_write _ _ c.edit-1.given.1
+returns-in-Write c = seek_write _ _ c.in-Write.is
 
 pub returns-in-Resize : goal.returns-in-Resize
-returns-in-Resize c = seek_resize _ _ c.enum_told-1.given.1
+returns-in-Resize c = seek_resize _ _ c.in-Resize.is

@@ -5,11 +5,11 @@ use Rattle.header.proofs.Version.from_number.Goals as goal
 
 pub returns-in-3 : goal.returns-in-3
 unfolding numbered_of
-returns-in-3 c = rw c.in-3.keys1
+returns-in-3 c = rw c.in-3.is
 
 pub returns-in-4 : goal.returns-in-4
 unfolding numbered_of
-returns-in-4 c = rw c.in-4.keys2
+returns-in-4 c = rw c.in-4.is
 
 pub returns-in_default : goal.returns-in_default
 unfolding numbered_of

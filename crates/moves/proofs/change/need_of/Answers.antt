@@ -5,7 +5,7 @@ use borrow.Author.Rules.{rules}
 use Rattle.moves.proofs.change.need_of.Goals as goal
 
 pub returns-in-Write : goal.returns-in-Write
-returns-in-Write c = need_write _ _ _ _ _ _ c.enum_told-1.given.1 c.more_of.ensures
+returns-in-Write c = need_write _ _ _ _ _ _ c.in-Write.is c.more_of.ensures
 
 pub returns-in-Resize : goal.returns-in-Resize
-returns-in-Resize c = c.sectors_for.ensures ∙ sym (need_resize _ _ _ _ _ c.edit-1.given.1)
+returns-in-Resize c = c.sectors_for.ensures ∙ sym (need_resize _ _ _ _ _ c.in-Resize.is)

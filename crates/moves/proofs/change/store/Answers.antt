@@ -18,7 +18,7 @@ pub zero_tail-requires : goal.zero_tail-requires
 zero_tail-requires c = place_resize _ _ _ _ _ _ c.edit-in-Resize-1.given.1 c.requires.1
 
 pub returns-in-Write : goal.returns-in-Write
-returns-in-Write c = c.write.ensures ∙ stores_write _ _ _ _ _ _ _ _ c.edit-1.given.1
+returns-in-Write c = c.write.ensures ∙ stores_write _ _ _ _ _ _ _ _ c.in-Write.is
 
 pub returns-then-count-had : goal.returns-then-count-had
 returns-then-count-had c = c.zero_tail.ensures ∙ stores_zeros _ _ _ _ _ _ _ _ c.edit-in-Resize-1.given.1 c.if-count-had.true

@@ -6,10 +6,10 @@ use borrow.Author.Rules.{rules}
 use Rattle.sectors.proofs.init.init_sector.Goals as goal
 
 pub returns-in-Zero : goal.returns-in-Zero
-returns-in-Zero c = c.fill.ensures ∙ init_zero _ ∙ ap (init_bytes _) (sym c.enum_told-1.given.1)
+returns-in-Zero c = c.fill.ensures ∙ init_zero _ ∙ ap (init_bytes _) (sym c.in-Zero.is)
 
 pub returns-in-Fat : goal.returns-in-Fat
-returns-in-Fat c = c.fill-in-Fat.ensures ∙ init_fat _ c.requires.0 ∙ ap (init_bytes _) (sym c.enum_told-in-Fat-1.given.1)
+returns-in-Fat c = c.fill-in-Fat.ensures ∙ init_fat _ c.requires.0 ∙ ap (init_bytes _) (sym c.in-Fat.is)
 
 pub returns-in-Difat : goal.returns-in-Difat
-returns-in-Difat c = c.init_difat.ensures ∙ ap (init_bytes _) (sym c.enum_told-in-Difat-1.given.1)
+returns-in-Difat c = c.init_difat.ensures ∙ ap (init_bytes _) (sym c.in-Difat.is)

@@ -4,4 +4,4 @@ use borrow.Author.Rules.{rules}
 use Rattle.states.proofs.told.words_of_answer.Goals as goal
 
 pub returns-in-Done : goal.returns-in-Done
-returns-in-Done c = words_done c.answer-1.given.1
+returns-in-Done c = words_done c.in-Done.is
