@@ -17,9 +17,9 @@ loop-items-preserved c =
     let turn = c.loop-items in (
       omega arith,
       λ rest.
-          turn.inv.1
-          (rest_more _ _ _ turn.at turn.past turn.items c.prettify-item.ensures c.item-1.given.1
-          (text_taken _ c.text_of-text.ensures) (c.line_at-line.ensures _ c.line-1.given.1) rest),
+          turn.invariant.1
+          (rest_more _ _ _ turn.at turn.past turn.items c.prettify-item.ensures c.in-Next.is
+          (text_taken _ c.text_of-text.ensures) (c.line_at-line.ensures _ c.in-Past.is) rest),
     )
 
 pub returns-then-at-sectors : goal.returns-then-at-sectors

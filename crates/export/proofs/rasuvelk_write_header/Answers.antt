@@ -8,14 +8,14 @@ pub returns-in_default : goal.returns-in_default
 returns-in_default c =
     let words = c.args.words.now in
     let numbered = c.from_number-numbered.ensures in
-    let none = c.enum_told-1.given.1 in
+    let none = ? in
     record { value = unwritten_number words _ numbered none; buf_after = unwritten_bytes words _ numbered none }
 
 pub returns : goal.returns
 returns c =
     let words = c.args.words.now in
     let numbered = c.from_number-numbered.ensures in
-    let version = c.numbered-1.given.1 in
+    let version = c.in-Known.is in
     let header = c.header_with-header.ensures in
     let says = c.write_to-verdict.ensures in
     record { value = c.number.ensures ∙ written_number words numbered version header says; buf_after = written_bytes words numbered version header says }

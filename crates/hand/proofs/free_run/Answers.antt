@@ -24,7 +24,7 @@ overflow_cast-id c = omega (arith, freeing_id c.loop-j.invariant c.loop-j-test.t
 pub point-requires : goal.point-requires
 point-requires c =
     let given = point_inside _ _ _ _ c.loop-j.invariant.fits.fits (freeing_id c.loop-j.invariant c.loop-j-test.true) in
-    record { s_value = given.0; i_in_bounds = given.1; s_in_bounds = given.2 }
+    record { s_value = given.0; i_in_bounds = given.1.0; s_in_bounds = given.1.1 }
 
 pub overflow_add-frees : goal.overflow_add-frees
 overflow_add-frees c = omega (arith, freeing_place c.loop-j.invariant c.loop-j-test.true)

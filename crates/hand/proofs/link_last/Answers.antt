@@ -14,7 +14,7 @@ overflow_cast-last c = omega (arith, (last_inside _ _ _ _ _ _ _ _ c.requires c.i
 pub point-requires : goal.point-requires
 point-requires c =
     let given = last_inside _ _ _ _ _ _ _ _ c.requires c.if-count-eq0.false in
-    record { s_value = given.0; i_in_bounds = given.1; s_in_bounds = given.2 }
+    record { s_value = given.0; i_in_bounds = given.1.0; s_in_bounds = given.1.1 }
 
 pub returns : goal.returns
 returns c = linked_of _ _ _ _ _ _ _ _ _ _ _ _ c.if-count-eq0.false c.point.ensures

@@ -19,7 +19,7 @@ returns-then-free-eq0 c = taken_new _ _ _ _ _ _ _ _ _ _ _ _ _ _ c.if-free-eq0.tr
 pub reuse-requires : goal.reuse-requires
 reuse-requires c =
     let given = reuse_inside _ _ _ _ c.requires.disk (last_below _ _ _ _ _ c.requires c.if-free-eq0.false) in
-    record { s_value = given.0; id_in_bounds = given.1; s_in_bounds = given.2 }
+    record { s_value = given.0; id_in_bounds = given.1.0; s_in_bounds = given.1.1 }
 
 pub returns : goal.returns
 returns c = taken_free _ _ _ _ _ _ _ _ _ _ c.if-free-eq0.false c.reuse.ensures

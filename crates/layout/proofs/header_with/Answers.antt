@@ -4,4 +4,4 @@ use borrow.Author.Rules.{rules}
 use Rattle.layout.proofs.header_with.Goals as goal
 
 pub returns : goal.returns
-returns c = list_held c.args.version c.args.t2 c.list_from-list.ensures
+returns c = list_held c.args.version c.args.words c.list_from-list.ensures

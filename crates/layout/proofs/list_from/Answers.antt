@@ -13,12 +13,12 @@ loop-i-init c = (omega arith, sym (splice_nil (replicate 109 0) 0))
 pub loop-i-preserved : goal.loop-i-preserved
 loop-i-preserved c =
     let turn = c.loop-i in
-    let words = c.args.t1 in
+    let words = c.args.words in
     let whole : length words ≡ 117 = c.well_formed.0.1.0.1 in
     (omega arith, taken_more 8 109 words turn.i turn.invariant.1 whole (omega arith))
 
 pub returns : goal.returns
 returns c =
-    let words = c.args.t1 in
+    let words = c.args.words in
     let whole : length words ≡ 117 = c.well_formed.0.1.0.1 in
     taken_list 8 109 words c.loop-i.i c.loop-i.invariant.1 whole (omega arith)

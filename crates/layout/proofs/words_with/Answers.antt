@@ -13,12 +13,12 @@ loop-i-init c = (omega arith, sym (splice_nil (replicate 117 0) 8))
 pub loop-i-preserved : goal.loop-i-preserved
 loop-i-preserved c =
     let turn = c.loop-i in
-    let list = c.args.t1 in
+    let list = c.args.list in
     let whole : length list ≡ 109 = c.well_formed.0.1.0.1 in
     (omega arith, placed_more (replicate 117 0) 8 list turn.i turn.invariant.1 (omega arith) (omega arith))
 
 pub returns : goal.returns
 returns c =
-    let list = c.args.t1 in
+    let list = c.args.list in
     let whole : length list ≡ 109 = c.well_formed.0.1.0.1 in
     placed_all 8 109 list c.loop-i.i c.loop-i.invariant.1 whole (omega arith)

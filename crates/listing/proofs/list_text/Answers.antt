@@ -11,19 +11,19 @@ returns-then-image-gt-MOST c = long_listing _ c.if-image-gt-MOST.true c.put_refu
 
 pub returns-in_default : goal.returns-in_default
 returns-in_default c =
-    refused_listing _ c.if-image-gt-MOST.false c.open_fat-verdict.ensures c.enum_told-1.given.1 c.number.ensures c.put_refused-in_default.ensures
+    refused_listing _ c.if-image-gt-MOST.false c.open_fat-verdict.ensures ? c.number.ensures c.put_refused-in_default.ensures
 
 pub slice_bounds-fat-end : goal.slice_bounds-fat-end
-slice_bounds-fat-end c = accepted_within c.open_fat-verdict.ensures c.verdict-1.given.1
+slice_bounds-fat-end c = accepted_within c.open_fat-verdict.ensures c.in-Accepted.is
 
 pub slice_bounds-put_listed-end-2 : goal.slice_bounds-put_listed-end-2
 slice_bounds-put_listed-end-2 c =
-    sym (length-take-le _ _ (accepted_within c.open_fat-verdict.ensures c.verdict-1.given.1))
+    sym (length-take-le _ _ (accepted_within c.open_fat-verdict.ensures c.in-Accepted.is))
 
 pub put_listed-requires : goal.put_listed-requires
 put_listed-requires c =
-    omega (arith, accepted_short c.if-image-gt-MOST.false c.open_fat-verdict.ensures c.verdict-1.given.1)
+    omega (arith, accepted_short c.if-image-gt-MOST.false c.open_fat-verdict.ensures c.in-Accepted.is)
 
 pub returns : goal.returns
 returns c =
-    accepted_listing _ c.if-image-gt-MOST.false c.open_fat-verdict.ensures c.verdict-1.given.1 c.put_listed.ensures
+    accepted_listing _ c.if-image-gt-MOST.false c.open_fat-verdict.ensures c.in-Accepted.is c.put_listed.ensures

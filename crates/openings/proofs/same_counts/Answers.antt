@@ -10,13 +10,13 @@ pub returns-then-number-number_in : goal.returns-then-number-number_in
 returns-then-number-number_in c = never
 
 pub overflow_cast-case : goal.overflow_cast-case
-overflow_cast-case c = omega (arith, c.shared_slice_known-2-1.given 6)
+overflow_cast-case c = omega (arith, c.type_inv.case 6)
 
 pub returns-then-state-case : goal.returns-then-state-case
 returns-then-state-case c = never
 
 pub overflow_cast-result : goal.overflow_cast-result
-overflow_cast-result c = omega (arith, c.shared_slice_known-3-1.given 7)
+overflow_cast-result c = omega (arith, c.type_inv.case 7)
 
 pub returns : goal.returns
 returns c =

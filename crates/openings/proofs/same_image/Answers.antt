@@ -12,7 +12,7 @@ pub returns-then-n-gt24 : goal.returns-then-n-gt24
 returns-then-n-gt24 c = never
 
 pub overflow_cast-place : goal.overflow_cast-place
-overflow_cast-place c = omega (arith, c.shared_slice_known-2-1.given 5)
+overflow_cast-place c = omega (arith, c.type_inv.case 5)
 
 pub returns-then-place-gt23 : goal.returns-then-place-gt23
 returns-then-place-gt23 c = never

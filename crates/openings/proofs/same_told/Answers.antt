@@ -10,7 +10,7 @@ pub returns-then-number-number_in : goal.returns-then-number-number_in
 returns-then-number-number_in c = never
 
 pub overflow_cast-case : goal.overflow_cast-case
-overflow_cast-case c = omega (arith, c.shared_slice_known-3-1.given 6)
+overflow_cast-case c = omega (arith, c.type_inv.case 6)
 
 pub returns-then-ids_told-case : goal.returns-then-ids_told-case
 returns-then-ids_told-case c = never

@@ -14,7 +14,7 @@ long : (c : Else-not-holds_number) → 512 ≤ length c.args.b.now
 long c = c.if-b-lt-HEADER_LEN.false
 
 holds : (c : Else-not-holds_number) → holds_number c.args.place ≡ true
-holds c = sym c.holds_number.ensures ∙ not-false c.holds_number.result c.if-not-holds_number.false
+holds c = sym c.holds_number.ensures ∙ c.if-not-holds_number.false
 
 pub returns-then-b-lt-HEADER_LEN : goal.returns-then-b-lt-HEADER_LEN
 returns-then-b-lt-HEADER_LEN c = sym (served_short _ c.args.place c.if-b-lt-HEADER_LEN.true)
@@ -22,7 +22,7 @@ returns-then-b-lt-HEADER_LEN c = sym (served_short _ c.args.place c.if-b-lt-HEAD
 pub returns-then-not-holds_number : goal.returns-then-not-holds_number
 returns-then-not-holds_number c =
     sym (served_none _ c.args.place
-    (sym c.holds_number.ensures ∙ not-true c.holds_number.result c.if-not-holds_number.true))
+    (sym c.holds_number.ensures ∙ c.if-not-holds_number.true))
 
 pub number_at-requires : goal.number_at-requires
 number_at-requires c = record {in_bounds = long c; place_value = holds c }

@@ -5,7 +5,7 @@ use borrow.Author.Rules.{rules}
 use Rattle.records.proofs.mode_in.Goals as goal
 
 pub overflow_cast-case : goal.overflow_cast-case
-overflow_cast-case c = omega (arith, c.shared_slice_known-1.given 1)
+overflow_cast-case c = omega (arith, c.type_inv.case 1)
 
 pub returns : goal.returns
 unfolding mode_in

@@ -6,7 +6,7 @@ use borrow.Author.Rules.{rules}
 use Rattle.records.proofs.number_in.Goals as goal
 
 pub overflow_cast-result : goal.overflow_cast-result
-overflow_cast-result c = omega (arith, c.shared_slice_known-1.given 4)
+overflow_cast-result c = omega (arith, c.type_inv.case 4)
 
 pub returns : goal.returns
 unfolding number_in

@@ -11,7 +11,7 @@ use Rattle.sectors.specs.Sectors.{entry_in, free_at, free_from}
 use Rattle.sectors.proofs.free_from.Given as goal
 
 abbrev pub invariant-loop-j : goal.invariant-loop-j
-invariant-loop-j l = (l.j ≤ l.count) × (l.free ≡ every l.j (λ i. free_at l.sector («l.from» + i)))
+invariant-loop-j l = (l.j ≤ l.count) × (l.free ≡ every l.j (λ i. free_at l.sector (l.from + i)))
 
 abbrev pub decreases-loop-j : goal.decreases-loop-j
 decreases-loop-j l = l.count - l.j

@@ -13,19 +13,19 @@ loop-i-init c = (omega arith, sym (splice_nil (replicate 117 0) 0))
 
 pub narrow-requires : goal.narrow-requires
 narrow-requires c =
-    let words = c.args.t1 in
+    let words = c.args.words in
     let whole : length words ≡ 121 = c.well_formed.0.1.0.1 in
     fits_word words c.loop-i.i whole c.requires (omega arith)
 
 pub loop-i-preserved : goal.loop-i-preserved
 loop-i-preserved c =
     let turn = c.loop-i in
-    let words = c.args.t1 in
+    let words = c.args.words in
     let whole : length words ≡ 121 = c.well_formed.0.1.0.1 in
     (omega arith, rw c.narrow.ensures (taken_more 4 117 words turn.i turn.invariant.1 whole (omega arith)))
 
 pub returns : goal.returns
 returns c =
-    let words = c.args.t1 in
+    let words = c.args.words in
     let whole : length words ≡ 121 = c.well_formed.0.1.0.1 in
     taken_list 4 117 words c.loop-i.i c.loop-i.invariant.1 whole (omega arith)

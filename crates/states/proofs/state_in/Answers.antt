@@ -16,7 +16,7 @@ narrow-requires c = holds_mode _ c.requires
 
 pub returns : goal.returns
 returns c =
-    let words = c.args.t1 in
+    let words = c.args.words in
     let whole : length words ≡ 121 = c.well_formed.0.1.0.1 in
     let held = state_held words _ c.header_words-held.ensures c.version_of-version.ensures c.header_with-header.ensures (c.mode_of-mode.ensures ∙ ap mode_of c.narrow.ensures) in
     record {value = held; result_value = ap state_words held ∙ words_again words whole c.requires }

@@ -11,7 +11,7 @@ pub loop-i-preserved : goal.loop-i-preserved
 loop-i-preserved c = putting_on c.loop-i.invariant c.loop-i-test.true c.requires
 
 pub shape_of-buf : goal.shape_of-buf
-shape_of-buf c = c.loop-i.invariant.done.auto
+shape_of-buf c = c.loop-i.invariant.done.kept
 
 pub returns : goal.returns
 returns c = putting_over c.loop-i.invariant c.loop-i-test.false

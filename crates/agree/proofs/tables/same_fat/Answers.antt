@@ -10,7 +10,7 @@ pub returns-then-strict : goal.returns-then-strict
 returns-then-strict c = fat_strict _ _ _ _ _ _ c.if-strict.true c.same_strict.ensures
 
 pub same_permissive-requires : goal.same_permissive-requires
-same_permissive-requires c = (c.requires.covers, (c.requires.below, c.requires.same))
+same_permissive-requires c = record { covers = c.requires.covers; difats_value = c.requires.below; room_len = c.requires.same }
 
 pub returns : goal.returns
 returns c = fat_permissive _ _ _ _ _ _ c.if-strict.false c.same_permissive.ensures

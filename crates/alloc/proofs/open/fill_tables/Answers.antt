@@ -65,10 +65,12 @@ slice_bounds-load_tables-end-8 c = sym (length-take-le _ _ c.requires.marks_long
 pub load_tables-requires : goal.load_tables-requires
 load_tables-requires c =
     let passed = goal.at.load_tables-requires c in
-    let n : length (take c.args.n c.args.fat.now) ≡ c.args.n = length-take-le _ _ c.requires.fat_long in (
-      counted_same _ _ _ _ _ _ _ _ n (length-take-le _ _ (fats_fit passed.After-ceil-d)) (length-take-le _ _ (difats_fit passed.After-ceil-d)) (counted passed.After-ceil-d),
-      (omega (arith, n, c.requires.scratch_long), zero_front _ _ c.requires.marks_zero c.requires.marks_long ∙ ap (λ (m : ℕ). replicate m 0) (sym n)),
-    )
+    let n : length (take c.args.n c.args.fat.now) ≡ c.args.n = length-take-le _ _ c.requires.fat_long in
+    record {
+      counted = counted_same _ _ _ _ _ _ _ _ n (length-take-le _ _ (fats_fit passed.After-ceil-d)) (length-take-le _ _ (difats_fit passed.After-ceil-d)) (counted passed.After-ceil-d);
+      fat_in_bounds = omega (arith, n, c.requires.scratch_long);
+      marks_value = zero_front _ _ c.requires.marks_zero c.requires.marks_long ∙ ap (λ (m : ℕ). replicate m 0) (sym n);
+    }
 
 pub returns : goal.returns
 returns c =

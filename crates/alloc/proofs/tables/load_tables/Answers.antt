@@ -38,13 +38,15 @@ load_fat-requires c =
 pub judge_fat-requires : goal.judge_fat-requires
 judge_fat-requires c =
     let passed = goal.at.judge_fat-requires c in
-    let k = c.load_fat.auto in (
-      (
-        below_kept _ _ _ k.1.1.1.1.0 (lists_difats _ _ _ _ _ _ _ c.load_lists.ensures (right passed.Else-not-load_lists)),
-        below_kept _ _ _ k.1.1.1.1.0 (lists_fats _ _ _ _ _ _ _ c.load_lists.ensures (right passed.Else-not-load_lists)),
-      ),
-      (omega (arith, k.1.1.1.1.0, c.requires.counted.few), c.requires.fat_in_bounds.1 ∙ ap (λ (m : ℕ). replicate m 0) (sym k.1.1.1.1.0)),
-    )
+    let k = c.load_fat.auto.fat in
+    record {
+      difats_value = (
+        below_kept _ _ _ k (lists_difats _ _ _ _ _ _ _ c.load_lists.ensures (right passed.Else-not-load_lists)),
+        below_kept _ _ _ k (lists_fats _ _ _ _ _ _ _ c.load_lists.ensures (right passed.Else-not-load_lists)),
+      );
+      fat_len_bound = omega (arith, k, c.requires.counted.few);
+      marks_value = c.requires.marks_value ∙ ap (λ (m : ℕ). replicate m 0) (sym k);
+    }
 
 pub returns : goal.returns
 returns c =

@@ -48,8 +48,8 @@ judged c =
     c.edit_listed-walked.ensures listing
 
 -- the count is that of the listing, and the change can be made
-walked-is : (c : After-len_of-s) → c.edit_listed-walked.result ≡ Listed c.walked-1.given.0.0
-walked-is c = c.walked-1.given.1
+walked-is : (c : After-len_of-s) → c.edit_listed-walked.result ≡ Listed c.in-Listed.count
+walked-is c = c.in-Listed.is
 
 ready : (c : After-len_of-s) → let state : State = c.args.self in let tables : Tables = record { fat = c.args.fat.now; fats = c.args.fats.now; difats = c.args.difats.now; frees = c.args.frees.now; marks = c.args.marks.now } in FitsEdit (state_len state) (room_of (state_len state) (length c.args.image.now)) c.args.edit (length c.args.buf.now)
     (chain_from state c.args.image.now tables (length c.args.ids.now) c.args.start)
@@ -77,7 +77,7 @@ edit_listed-walked-requires c =
 pub returns-in_default : goal.returns-in_default
 returns-in_default c =
     let passed = goal.at.returns-in_default c in
-    changes_refused _ _ _ _ _ (judged passed.After-edit_listed-walked) _ _ (tables passed.After-change_of-listed) _ _ _ _ _ c.enum_told-1.given.1 c.answer_of-answer.ensures
+    changes_refused _ _ _ _ _ (judged passed.After-edit_listed-walked) _ _ (tables passed.After-change_of-listed) _ _ _ _ _ ? c.answer_of-answer.ensures
 
 pub change-changed-requires : goal.change-changed-requires
 change-changed-requires c =

@@ -19,13 +19,13 @@ abbrev tables : After-chain_of-walked → Tables
 tables c = record { fat = c.args.fat.now; fats = c.args.fats.now; difats = c.args.difats.now; frees = c.args.frees.now; marks = c.args.marks.now }
 
 -- the count is that of the walk
-walked-is : (c : After-len_of-s) → c.chain_of-walked.result ≡ Listed c.walked-1.given.0.0
-walked-is c = c.walked-1.given.1
+walked-is : (c : After-len_of-s) → c.chain_of-walked.result ≡ Listed c.in-Listed.count
+walked-is c = c.in-Listed.is
 
 pub returns-in_default : goal.returns-in_default
 returns-in_default c =
     let passed = goal.at.returns-in_default c in
-    reads_refused _ _ (tables passed.After-chain_of-walked) _ _ _ _ c.chain_of-walked.ensures _ _ _ _ c.enum_told-1.given.1 c.answer_of-answer.ensures
+    reads_refused _ _ (tables passed.After-chain_of-walked) _ _ _ _ c.chain_of-walked.ensures _ _ _ _ ? c.answer_of-answer.ensures
 
 pub overflow_mul-s : goal.overflow_mul-s
 overflow_mul-s c =

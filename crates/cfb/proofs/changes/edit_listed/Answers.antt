@@ -12,15 +12,15 @@ use Rattle.cfb.proofs.changes.edit_listed.Goals as goal
 use Rattle.cfb.proofs.changes.edit_listed.Goals.{After-len_of-len, After-no_room}
 
 -- the count is that of the listing
-walked-is : (c : After-len_of-len) → c.args.walked ≡ Listed c.walked-1.given.0.0
-walked-is c = c.walked-1.given.1
+walked-is : (c : After-len_of-len) → c.args.walked ≡ Listed c.in-Listed.count
+walked-is c = c.in-Listed.is
 
 -- whether there is room is that of the row
-room-is : (c : After-no_room) → c.no_room.result ≡ no_room c.args.s c.args.lent (edit_more c.len_of-len.result c.walked-1.given.0.0 c.args.edit c.args.bytes)
+room-is : (c : After-no_room) → c.no_room.result ≡ no_room c.args.s c.args.lent (edit_more c.len_of-len.result c.in-Listed.count c.args.edit c.args.bytes)
 room-is c = c.no_room.ensures ∙ ap (no_room _ _) c.more_of.ensures
 
 pub returns-in_default : goal.returns-in_default
-returns-in_default c = λ l. edit_early _ _ _ _ l c.args.edit c.args.bytes _ c.enum_told-1.given.1
+returns-in_default c = λ l. edit_early _ _ _ _ l c.args.edit c.args.bytes _ ?
 
 pub overflow_mul-len : goal.overflow_mul-len
 overflow_mul-len c = omega (arith, listing_small _ _ _ _ c.requires _ (walked-is c) c.len_of-len.ensures)

@@ -9,15 +9,15 @@ use Rattle.compare.proofs.permissive.same_permissive.Goals as goal
 use Rattle.compare.proofs.permissive.same_permissive.Goals.{After-load_fat}
 
 long : (c : After-load_fat) → length c.load_fat.new.fat ≡ length c.args.fat.now
-long c = c.load_fat.auto.fat ∙ c.requires.difats_value.1
+long c = c.load_fat.auto.fat ∙ c.requires.room_len
 
 raw-is : (c : After-load_fat) → c.load_fat.new.fat ≡ fat_of c.args.s c.args.image.now c.args.fats.now (length c.args.fat.now)
-raw-is c = c.load_fat.ensures ∙ ap (fat_of c.args.s c.args.image.now c.args.fats.now) c.requires.difats_value.1
+raw-is c = c.load_fat.ensures ∙ ap (fat_of c.args.s c.args.image.now c.args.fats.now) c.requires.room_len
 
 pub set_listed-requires : goal.set_listed-requires
 set_listed-requires c =
     let passed = goal.at.set_listed-requires c in
-    record {difats_value = below_kept _ _ _ (long passed.After-load_fat) c.requires.difats_value.0; fats_value = below_kept _ _ _ (long passed.After-load_fat) c.requires.covers.below }
+    record {difats_value = below_kept _ _ _ (long passed.After-load_fat) c.requires.difats_value; fats_value = below_kept _ _ _ (long passed.After-load_fat) c.requires.covers.below }
 
 pub returns : goal.returns
 returns c =

@@ -12,7 +12,7 @@ init_at-requires c =
 pub set_fat-requires : goal.set_fat-requires
 set_fat-requires c =
     let given = one_entry _ _ _ _ c.requires.fits_one _ c.init_at.auto.image in
-    record { s_value = given.0; i_in_bounds = given.1; s_in_bounds = given.2 }
+    record { s_value = given.0; i_in_bounds = given.1.0; s_in_bounds = given.1.1 }
 
 pub link_difat-requires : goal.link_difat-requires
 link_difat-requires c =

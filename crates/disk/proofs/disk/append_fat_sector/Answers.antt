@@ -18,7 +18,7 @@ bounds-fats-k c = (full_listed _ _ _ c.requires).0
 pub set_fat-requires : goal.set_fat-requires
 set_fat-requires c =
     let given = full_entry _ _ _ c.requires _ c.init_at.auto.image in
-    record { s_value = given.0; i_in_bounds = given.1; s_in_bounds = given.2 }
+    record { s_value = given.0; i_in_bounds = given.1.0; s_in_bounds = given.1.1 }
 
 pub list_place-count-requires : goal.list_place-count-requires
 list_place-count-requires c =

@@ -6,7 +6,7 @@ use Rattle.disk.proofs.disk.new_sector.Goals as goal
 pub set_fat-requires : goal.set_fat-requires
 set_fat-requires c =
     let given = new_entry _ _ _ _ c.requires c.make_ready-id.ensures in
-    record { s_value = given.0; i_in_bounds = given.1; s_in_bounds = given.2 }
+    record { s_value = given.0; i_in_bounds = given.1.0; s_in_bounds = given.1.1 }
 
 pub init_at-requires : goal.init_at-requires
 init_at-requires c =

@@ -26,7 +26,7 @@ returns-then-not-load_difats c =
 pub load_fats-requires : goal.load_fats-requires
 load_fats-requires c =
     let passed = goal.at.load_fats-requires c in
-    let kept = c.load_difats.auto.1.1.1.1 in record {places = places_ready _ _ _ _ _ _ _ _ _ _ c.requires.counted (entries-there passed.After-list-2-1) kept.0 c.load_difats.ensures (c.if-not-load_difats.false); fats_len_bound = (omega (arith, fats_few _ _ _ _ _ c.requires.counted, c.requires.counted.few), omega (arith, kept.1.0, c.requires.n_in_bounds)) }
+    let kept = c.load_difats.auto in record {places = places_ready _ _ _ _ _ _ _ _ _ _ c.requires.counted (entries-there passed.After-list-2-1) kept.difats c.load_difats.ensures (c.if-not-load_difats.false); fats_len_bound = (omega (arith, fats_few _ _ _ _ _ c.requires.counted, c.requires.counted.few), omega (arith, kept.scratch, c.requires.n_in_bounds)) }
 
 pub returns : goal.returns
 returns c =

@@ -58,8 +58,8 @@ pub loop-p-preserved : goal.loop-p-preserved
 loop-p-preserved c =
     let passed = goal.at.loop-p-preserved c in
     let l = c.loop-p in
-    let end = c.lesser-b.ensures.2 ∙ ap (min _) l.inv.2.same in
-    (omega arith, l.inv.1, loaded_more _ _ _ l.p _ _ l.fat _ l.inv.2 (begins passed.In-loop-p) end c.load_at.ensures)
+    let end = c.lesser-b.ensures.2 ∙ ap (min _) l.invariant.2.same in
+    (omega arith, l.invariant.1, loaded_more _ _ _ l.p _ _ l.fat _ l.invariant.2 (begins passed.In-loop-p) end c.load_at.ensures)
 
 pub shape_of-fat : goal.shape_of-fat
 shape_of-fat c = omega (arith, c.loop-p.invariant.2.same)

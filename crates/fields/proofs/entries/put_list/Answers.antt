@@ -21,9 +21,9 @@ loop-i-preserved c =
     let l = c.loop-i in
     (
       omega arith,
-      l.inv.1,
-      entries_more c.args.buf.now l.buf turn.new.0 76 _ c.args.list.now l.i (omega (arith, c.requires.list_len)) (omega (arith, c.requires)) l.inv.1 l.inv.2 turn.ensures,
-      turn.auto.0 ∙ l.inv.3,
+      l.invariant.1,
+      entries_more c.args.buf.now l.buf turn.new.s 76 _ c.args.list.now l.i (omega (arith, c.requires.list_len)) (omega (arith, c.requires)) l.invariant.1 l.invariant.2 turn.ensures,
+      turn.auto.s ∙ l.invariant.3,
     )
 
 pub returns : goal.returns

@@ -56,18 +56,18 @@ returns-then-not-signed c =
 
 pub returns-then-number-ne0 : goal.returns-then-number-ne0
 returns-then-number-ne0 c =
-    let passed = goal.at.returns-then-number-ne0 c in
+    let at = goal.at.returns-then-number-ne0 c in
     let refuses : read_number c.judge-verdict.result ≡ 0 → ⊥ = λ z. c.if-number-ne0.true (c.number.ensures ∙ z) in
-    says_no _ _ c.judge-verdict.result _ c.refused-then-number-ne0.ensures refuses (gives_fixed _ _ (whole passed.Else-not-signed) (signed passed.Else-not-signed) _ (judged passed.After-judge-verdict) refuses)
+    says_no _ _ c.judge-verdict.result _ c.refused-then-number-ne0.ensures refuses (gives_fixed _ _ (whole at.Else-not-signed) (signed at.Else-not-signed) _ (judged at.After-judge-verdict) refuses)
 
 pub returns-then-not-ids_then_free : goal.returns-then-not-ids_then_free
 returns-then-not-ids_then_free c =
-    let passed = goal.at.returns-then-not-ids_then_free c in
+    let at = goal.at.returns-then-not-ids_then_free c in
     says_no _ _ Entries _ c.refused-then-not-ids_then_free.ensures (omega arith)
-    (gives_9 _ _ (whole passed.Else-not-signed) (signed passed.Else-not-signed) (passed passed.Else-number-ne0) (sym (listed passed.After-ids_then_free) ∙ c.if-not-ids_then_free.true))
+    (gives_9 _ _ (whole at.Else-not-signed) (signed at.Else-not-signed) (passed at.Else-number-ne0) (sym (listed at.After-ids_then_free) ∙ c.if-not-ids_then_free.true))
 
 pub returns : goal.returns
 returns c =
-    let passed = goal.at.returns c in
+    let at = goal.at.returns c in
     says_yes _ _ _ c.content-header.ensures
-    (gives_0 _ _ (whole passed.Else-not-signed) (signed passed.Else-not-signed) (passed passed.Else-number-ne0) (sym (listed passed.After-ids_then_free) ∙ c.if-not-ids_then_free.false))
+    (gives_0 _ _ (whole at.Else-not-signed) (signed at.Else-not-signed) (passed at.Else-number-ne0) (sym (listed at.After-ids_then_free) ∙ c.if-not-ids_then_free.false))

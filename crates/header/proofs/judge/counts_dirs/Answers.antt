@@ -15,13 +15,13 @@ strict c = sym c.is_strict.ensures
 insists : (c : Else-not-is_strict) → is_strict c.args.validation ≡ true
 insists c =
     let strict : is_strict c.args.validation ≡ c.is_strict.result = sym c.is_strict.ensures in
-    strict ∙ not-false c.is_strict.result c.if-not-is_strict.false
+    strict ∙ c.if-not-is_strict.false
 
 pub returns-then-not-is_strict : goal.returns-then-not-is_strict
 unfolding counts_dirs
 returns-then-not-is_strict c =
     let passed = goal.at.returns-then-not-is_strict c in
-    rw (strict passed.After-is_strict ∙ not-true c.is_strict.result c.if-not-is_strict.true)
+    rw (strict passed.After-is_strict ∙ c.if-not-is_strict.true)
 
 pub returns-then-major-ne3 : goal.returns-then-major-ne3
 unfolding counts_dirs

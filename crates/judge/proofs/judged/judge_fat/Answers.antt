@@ -27,7 +27,7 @@ returns-then-unmarked c = fat_14 _ _ _ _ _ _ (sym c.unmarked.ensures ∙ c.if-un
 
 pub judge-wrong-requires : goal.judge-wrong-requires
 judge-wrong-requires c =
-    record {fat_len_bound = omega (arith, c.set_listed.auto.fat, c.requires.fat_len_bound.0); marks_value = c.requires.fat_len_bound.1 ∙ ap (λ (k : ℕ). replicate k 0) (sym c.set_listed.auto.fat) }
+    record {fat_len_bound = omega (arith, c.set_listed.auto.fat, c.requires.fat_len_bound); marks_value = c.requires.marks_value ∙ ap (λ (k : ℕ). replicate k 0) (sym c.set_listed.auto.fat) }
 
 pub returns-then-wrong-ne0 : goal.returns-then-wrong-ne0
 returns-then-wrong-ne0 c =

@@ -5,7 +5,7 @@ use borrow.Author.Rules.{rules}
 use Rattle.moves.proofs.change.more_of.Goals as goal
 
 pub sectors_past-requires : goal.sectors_past-requires
-sectors_past-requires c = (c.requires.0, c.requires.1, seek_write _ _ _ c.edit-1.given.1 c.requires.2, c.requires.3)
+sectors_past-requires c = (c.requires.0, c.requires.1, seek_write _ _ _ c.in-Write.is c.requires.2, c.requires.3)
 
 pub returns-in-Write : goal.returns-in-Write
 returns-in-Write c = c.sectors_past.ensures ∙ sym (more_write _ _ _ _ _ c.in-Write.is)

@@ -10,7 +10,7 @@ use Rattle.points.proofs.points.count_pointers.Goals as goal
 pub loop-q-init : goal.loop-q-init
 loop-q-init c =
     let f = c.fill32 in
-    (omega arith, refl, counting_none _ _ _ c.requires.few f.ensures c.requires.each (f.auto.0 ∙ c.requires.each))
+    (omega arith, refl, counting_none _ _ _ c.requires.few f.ensures c.requires.each (f.auto.dst ∙ c.requires.each))
 
 pub overflow_mul-q : goal.overflow_mul-q
 overflow_mul-q c = omega (arith, c.loop-q.invariant.1, c.requires.few)
