@@ -313,7 +313,7 @@ module _ (S R : ℕ) (d : Disk) (f : FitsWhole S R d) where
           link_is i (omega (arith, h)) ∙ c.links.each (i + 1) h ∙ sym (difats_at_lem (i + 1) h);
       chain_last = λ i z.
           let h : i + 1 ≡ j = z ∙ length_difats in
-          ends_own _ _ (ap (λ (x : ℕ). le 4 img (link_place S d.difats x)) (sym h) ∙ sym (link_is i (omega (arith, h)))) c.links.new;
+          ends_own _ _ (ap (λ (x : ℕ). le 4 img (link_place S d.difats x)) (sym h) ∙ sym (link_is i (omega (arith, h)))) c.links.last;
       places = λ q l. place_after_lem q (rw length_fats at l);
       places_rest = λ q g l. place_free q (rw length_fats at g) (rw length_difats at l);
       entries = λ i l. entry_is i (fat_has S d.sectors i (omega (arith, many)) l) ∙ c.entries.each i l ∙ sym (fat_at i l);

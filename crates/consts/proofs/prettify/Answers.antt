@@ -35,5 +35,4 @@ overflow_sub-result c = (range_within _ _ _ _ c.if-sectors-at.false c.range_end-
 
 pub returns-in_default : goal.returns-in_default
 returns-in_default c =
-    item_range _ _ _ _ c.if-sectors-at.false refl c.in_default.rest.0.0.0.1 c.in_default.rest.0.0.1
-    c.in_default.rest.0.1 c.in_default.rest.1 c.range_end-end.ensures
+    item_range _ _ _ _ c.if-sectors-at.false refl (λ e. omega arith) (λ e. omega arith) (λ e. omega arith) (λ e. omega arith) c.range_end-end.ensures

@@ -5,4 +5,4 @@ use Rattle.export.proofs.rasuvelk_open.Goals as goal
 
 pub returns : goal.returns
 returns c =
-    opening_gives _ _ _ _ _ _ _ _ _ _ c.mode_of.ensures c.«open».ensures c.number.ensures c.words_of_state-held.ensures
+    opening_gives _ _ _ _ _ _ _ _ _ _ c.mode_of.ensures c.open-opened.ensures c.number.ensures c.words_of_state-held.ensures

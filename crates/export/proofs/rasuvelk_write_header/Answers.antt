@@ -8,7 +8,7 @@ pub returns-in_default : goal.returns-in_default
 returns-in_default c =
     let words = c.args.words.now in
     let numbered = c.from_number-numbered.ensures in
-    let none = ? in
+    let none = c.in_default.is in
     record { value = unwritten_number words _ numbered none; buf_after = unwritten_bytes words _ numbered none }
 
 pub returns : goal.returns

@@ -26,4 +26,4 @@ unfolding named_of
 returns-in-5 c = c.named_range.ensures ∙ named_at 5 c.args.a c.args.b c.in-5.is
 
 pub returns-in_default : goal.returns-in_default
-returns-in_default c = let others = c.in_default.rest in named_none _ _ _ others.0.0.0.0.1 others.0.0.0.1 others.0.0.1 others.0.1 others.1
+returns-in_default c = named_none _ _ _ (λ e. omega arith) (λ e. omega arith) (λ e. omega arith) (λ e. omega arith) (λ e. omega arith)

@@ -13,7 +13,7 @@ shape_of-out-in_default c = c.loop-i.invariant.put.kept
 
 pub returns-in_default : goal.returns-in_default
 returns-in_default c =
-    listing_done c.loop-i.invariant c.prettify-item.ensures ?
+    listing_done c.loop-i.invariant c.prettify-item.ensures c.in_default.is
 
 pub put_item-at-requires : goal.put_item-at-requires
 put_item-at-requires c =

@@ -15,7 +15,7 @@ counts-short : (c : Start) → length (counts_line c.args.sectors c.args.free) �
 counts-short c = counts_fit _ _ (omega arith) (omega arith)
 
 items-short : (c : After-shared_slice_known-1) → length (lines_of (prettify_of c.args.fat.now)) ≤ 27 * length c.args.fat.now
-items-short c = items_fit _ (record { each = λ i h. omega (arith, c.shared_slice_known-1.given i) }) (omega arith)
+items-short c = items_fit _ (record { each = λ i h. omega (arith, c.type_inv.fat i) }) (omega arith)
 
 pub put_items-requires : goal.put_items-requires
 put_items-requires c =

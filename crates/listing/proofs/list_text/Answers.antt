@@ -11,7 +11,7 @@ returns-then-image-gt-MOST c = long_listing _ c.if-image-gt-MOST.true c.put_refu
 
 pub returns-in_default : goal.returns-in_default
 returns-in_default c =
-    refused_listing _ c.if-image-gt-MOST.false c.open_fat-verdict.ensures ? c.number.ensures c.put_refused-in_default.ensures
+    refused_listing _ c.if-image-gt-MOST.false c.open_fat-verdict.ensures c.in_default.is c.number.ensures c.put_refused-in_default.ensures
 
 pub slice_bounds-fat-end : goal.slice_bounds-fat-end
 slice_bounds-fat-end c = accepted_within c.open_fat-verdict.ensures c.in-Accepted.is

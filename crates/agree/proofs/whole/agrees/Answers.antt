@@ -31,32 +31,32 @@ own-header c = sym c.same_header.ensures ∙ c.if-not-same_header.false
 
 pub returns-then-no-ne0 : goal.returns-then-no-ne0
 returns-then-no-ne0 c =
-    let passed = goal.at.returns-then-no-ne0 c in
-    agree_early _ _ _ _ _ _ (tables passed.Start) (λ z. c.if-no-ne0.true (first passed.After-judge_early-early ∙ z))
+    let at = goal.at.returns-then-no-ne0 c in
+    agree_early _ _ _ _ _ _ (tables at.Start) (λ z. c.if-no-ne0.true (first at.After-judge_early-early ∙ z))
 
 pub returns-then-not-same_header : goal.returns-then-not-same_header
 returns-then-not-same_header c =
-    let passed = goal.at.returns-then-not-same_header c in
-    agree_header _ _ _ _ _ _ (tables passed.Start) _ (early_own c.judge_early-early.ensures c.if-no-ne0.false) (sym c.same_header.ensures ∙ c.if-not-same_header.true)
+    let at = goal.at.returns-then-not-same_header c in
+    agree_header _ _ _ _ _ _ (tables at.Start) _ (early_own c.judge_early-early.ensures c.if-no-ne0.false) (sym c.same_header.ensures ∙ c.if-not-same_header.true)
 
 pub returns-then-sectors-n : goal.returns-then-sectors-n
 returns-then-sectors-n c =
-    let passed = goal.at.returns-then-sectors-n c in
-    agree_count _ _ _ _ _ _ (tables passed.Start) _ (early_sectors c.judge_early-early.ensures c.if-no-ne0.false) c.if-sectors-n.true
+    let at = goal.at.returns-then-sectors-n c in
+    agree_count _ _ _ _ _ _ (tables at.Start) _ (early_sectors c.judge_early-early.ensures c.if-no-ne0.false) c.if-sectors-n.true
 
 pub returns-then-n-free : goal.returns-then-n-free
 returns-then-n-free c =
-    let passed = goal.at.returns-then-n-free c in
-    agree_free _ _ _ _ _ _ (tables passed.Start) _ (early_sectors c.judge_early-early.ensures c.if-no-ne0.false) c.if-n-free.true
+    let at = goal.at.returns-then-n-free c in
+    agree_free _ _ _ _ _ _ (tables at.Start) _ (early_sectors c.judge_early-early.ensures c.if-no-ne0.false) c.if-n-free.true
 
 pub same_whole-requires : goal.same_whole-requires
 same_whole-requires c =
-    let passed = goal.at.same_whole-requires c in
+    let at = goal.at.same_whole-requires c in
     let says = c.judge_early-early.ensures in
-    agree_lent _ _ _ c.args.sectors _ _ (tables passed.Start) (passed passed.Else-no-ne0) _ _ _ _ (early_len says c.if-no-ne0.false) (early_sectors says c.if-no-ne0.false) (early_own says c.if-no-ne0.false) (own-header passed.Else-not-same_header) c.if-n-free.false c.requires
+    agree_lent _ _ _ c.args.sectors _ _ (tables at.Start) (passed at.Else-no-ne0) _ _ _ _ (early_len says c.if-no-ne0.false) (early_sectors says c.if-no-ne0.false) (early_own says c.if-no-ne0.false) (own-header at.Else-not-same_header) c.if-n-free.false c.requires
 
 pub returns : goal.returns
 returns c =
-    let passed = goal.at.returns c in
+    let at = goal.at.returns c in
     let says = c.judge_early-early.ensures in
-    agree_told _ _ _ _ _ _ (tables passed.Start) (passed passed.Else-no-ne0) _ _ _ _ _ c.is_strict-strict.ensures (early_len says c.if-no-ne0.false) (early_sectors says c.if-no-ne0.false) (early_own says c.if-no-ne0.false) (own-header passed.Else-not-same_header) c.if-sectors-n.false c.same_whole.ensures
+    agree_told _ _ _ _ _ _ (tables at.Start) (passed at.Else-no-ne0) _ _ _ _ _ c.is_strict-strict.ensures (early_len says c.if-no-ne0.false) (early_sectors says c.if-no-ne0.false) (early_own says c.if-no-ne0.false) (own-header at.Else-not-same_header) c.if-sectors-n.false c.same_whole.ensures

@@ -7,7 +7,7 @@ use Rattle.alloc.proofs.open.load_all.Goals as goal
 pub load_zeroed-filled-requires : goal.load_zeroed-filled-requires
 load_zeroed-filled-requires c =
     let k = c.clear in
-    lent_zeroed _ _ _ _ _ _ _ _ _ _ _ _ _ c.requires k.ensures.0 k.ensures.1 k.ensures.2 k.kept.1.1.1.0 k.ensures.4
+    lent_zeroed _ _ _ _ _ _ _ _ _ _ _ _ _ c.requires k.ensures.0 k.ensures.1 k.ensures.2 k.auto.frees k.ensures.4
 
 pub shape_of-fat-then-no-ne0 : goal.shape_of-fat-then-no-ne0
 shape_of-fat-then-no-ne0 c = c.clear-then-no-ne0.auto.fat ∙ c.load_zeroed-filled.auto.fat ∙ c.clear.auto.fat
@@ -23,13 +23,12 @@ returns-then-no-ne0 c =
     let k = c.clear-then-no-ne0 in
     let l = c.load_zeroed-filled in
     let m = c.clear in
-    let same = l.kept.1.1.1.1.1 in
     refused_loaded _ _ _ _ _ _ _ _ _ _ _ _ _ _ _ _ _ _ _ _ _ _ _ _ _ _ c.if-no-ne0.true l.ensures
-    (zeros_as _ _ _ k.ensures.0 (same.0 ∙ m.kept.0)) (zeros_as _ _ _ k.ensures.1 (same.1.0 ∙ m.kept.1.0)) (zeros_as _ _ _ k.ensures.2 (same.1.1.0 ∙ m.kept.1.1.0))
-    (zeros_as _ _ _ k.ensures.3 (same.1.1.1.0 ∙ m.kept.1.1.1.0)) (zeros_as _ _ _ k.ensures.4 (same.1.1.1.1.0 ∙ m.kept.1.1.1.1.0))
+    (zeros_as _ _ _ k.ensures.0 (l.auto.fat ∙ m.auto.fat)) (zeros_as _ _ _ k.ensures.1 (l.auto.fats ∙ m.auto.fats)) (zeros_as _ _ _ k.ensures.2 (l.auto.difats ∙ m.auto.difats))
+    (zeros_as _ _ _ k.ensures.3 (l.auto.frees ∙ m.auto.frees)) (zeros_as _ _ _ k.ensures.4 (l.auto.marks ∙ m.auto.marks))
 
 pub returns-else-no-ne0 : goal.returns-else-no-ne0
 returns-else-no-ne0 c =
     let l = c.load_zeroed-filled in
     let k = c.clear in
-    filled_loaded _ _ _ _ _ _ _ _ _ _ _ _ _ _ _ _ _ _ _ _ _ k.kept.0 k.kept.1.0 k.kept.1.1.0 k.kept.1.1.1.0 k.kept.1.1.1.1.0 c.if-no-ne0.false l.ensures
+    filled_loaded _ _ _ _ _ _ _ _ _ _ _ _ _ _ _ _ _ _ _ _ _ k.auto.fat k.auto.fats k.auto.difats k.auto.frees k.auto.marks c.if-no-ne0.false l.ensures

@@ -17,8 +17,7 @@ returns-then-no-ne0 c = tables_refused _ _ _ _ _ _ _ _ _ _ _ _ _ _ _ _ c.fill_ta
 
 pub slice_bounds-list_free-end-2 : goal.slice_bounds-list_free-end-2
 slice_bounds-list_free-end-2 c =
-    let passed = goal.at.slice_bounds-list_free-end-2 c in
-    sym (front passed.After-list_free-arg-1)
+    sym (length-take-le _ _ (omega (arith, c.fill_tables-no.auto.fat, c.requires.fat_long)))
 
 pub list_free-free-requires : goal.list_free-free-requires
 list_free-free-requires c =

@@ -77,7 +77,7 @@ edit_listed-walked-requires c =
 pub returns-in_default : goal.returns-in_default
 returns-in_default c =
     let passed = goal.at.returns-in_default c in
-    changes_refused _ _ _ _ _ (judged passed.After-edit_listed-walked) _ _ (tables passed.After-change_of-listed) _ _ _ _ _ ? c.answer_of-answer.ensures
+    changes_refused _ _ _ _ _ (judged passed.After-edit_listed-walked) _ _ (tables passed.After-change_of-listed) _ _ _ _ _ c.in_default.is c.answer_of-answer.ensures
 
 pub change-changed-requires : goal.change-changed-requires
 change-changed-requires c =

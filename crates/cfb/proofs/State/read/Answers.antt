@@ -25,7 +25,7 @@ walked-is c = c.in-Listed.is
 pub returns-in_default : goal.returns-in_default
 returns-in_default c =
     let passed = goal.at.returns-in_default c in
-    reads_refused _ _ (tables passed.After-chain_of-walked) _ _ _ _ c.chain_of-walked.ensures _ _ _ _ ? c.answer_of-answer.ensures
+    reads_refused _ _ (tables passed.After-chain_of-walked) _ _ _ _ c.chain_of-walked.ensures _ _ _ _ c.in_default.is c.answer_of-answer.ensures
 
 pub overflow_mul-s : goal.overflow_mul-s
 overflow_mul-s c =

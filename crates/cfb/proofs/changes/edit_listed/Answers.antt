@@ -20,7 +20,7 @@ room-is : (c : After-no_room) → c.no_room.result ≡ no_room c.args.s c.args.l
 room-is c = c.no_room.ensures ∙ ap (no_room _ _) c.more_of.ensures
 
 pub returns-in_default : goal.returns-in_default
-returns-in_default c = λ l. edit_early _ _ _ _ l c.args.edit c.args.bytes _ ?
+returns-in_default c = λ l. edit_early _ _ _ _ l c.args.edit c.args.bytes _ c.in_default.is
 
 pub overflow_mul-len : goal.overflow_mul-len
 overflow_mul-len c = omega (arith, listing_small _ _ _ _ c.requires _ (walked-is c) c.len_of-len.ensures)

@@ -13,4 +13,7 @@ returns-in-4 c = rw c.in-4.is
 
 pub returns-in_default : goal.returns-in_default
 unfolding numbered_of
-returns-in_default c = rw (ne_eqb _ _ c.in_default.rest.0.1, ne_eqb _ _ c.in_default.rest.1)
+returns-in_default c =
+    let not_3 : c.args.number ≡ 3 → ⊥ = λ e. omega arith in
+    let not_4 : c.args.number ≡ 4 → ⊥ = λ e. omega arith in
+    rw (ne_eqb _ _ not_3, ne_eqb _ _ not_4)
