@@ -16,4 +16,4 @@ pub returns : goal.returns
 returns c =
     let held = c.state_in-held.ensures in
     let told = c.give.ensures in
-    edit_given _ _ _ _ _ _ _ _ _ _ c.holds_state.ensures (c.if-not-holds_state.false) held.value held.result_value _ _ _ told.0 told.1.0 told.1.1 _ c.args.edit c.args.buf.now c.change-called.ensures
+    edit_given _ _ _ _ _ _ _ _ _ _ c.holds_state.ensures (c.if-not-holds_state.false) held.value held.result_value _ _ _ told.value told.state_after told.answer_after _ c.args.edit c.args.buf.now c.change-called.ensures

@@ -1,4 +1,5 @@
 -- `items::item_named` meets its contract: each arm of the match is a row of the definition. Assumes nothing.
+use native.Mathlib.Omega.{arith}
 use mathlib.Core.Path.{◌∙◌}
 use Rattle.items.specs.Items.{named_of}
 use Rattle.items.proofs.Naming.{named_at, named_none}

@@ -12,4 +12,4 @@ pub returns-then-not-is_version : goal.returns-then-not-is_version
 returns-then-not-is_version c = version_none _ c.if-words-gt1.false (sym c.is_version.ensures ∙ c.if-not-is_version.true)
 
 pub returns : goal.returns
-returns c = c.fits-2.ensures ∙ words_fit _ c.if-words-gt1.false (sym c.is_version.ensures ∙ c.if-not-is_version.false)
+returns c = c.fits.ensures ∙ words_fit _ c.if-words-gt1.false (sym c.is_version.ensures ∙ c.if-not-is_version.false)

@@ -1,4 +1,6 @@
 -- Each arm of the match is one case of the definition.
+use mathlib.Core.Path.{◌≡◌}
+use native.Mathlib.Omega.{arith}
 use borrow.Author.Tests.{ne_eqb}
 use Rattle.header.specs.Versions.{numbered_of}
 use Rattle.header.proofs.Version.from_number.Goals as goal

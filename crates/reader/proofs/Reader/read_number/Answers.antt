@@ -1,0 +1,7 @@
+-- The reader that is left has the place after the field that was read.
+use Rattle.reader.specs.Serve.{stepped}
+use Rattle.reader.proofs.Reader.read_number.Goals as goal
+
+pub returns : goal.returns
+unfolding stepped
+returns c = search rules
