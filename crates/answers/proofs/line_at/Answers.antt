@@ -26,5 +26,5 @@ returns-then-held-end-ne10 c = λ q e. no_line q e
 pub returns : goal.returns
 returns c =
     let given = c.args in
-    line_stands given.held.now given.t3 given.at given.len (search rules) (part_between given.held.now given.at given.len)
+    line_stands given.held.now given.bytes given.at given.len (search rules) (part_between given.held.now given.at given.len)
     (sym c.same.ensures ∙ c.if-not-same.false) c.if-held-end-ne10.false

@@ -16,7 +16,7 @@ loop-i-preserved c =
       omega arith,
       ap (λ (l : List ℕ). set l turn.i turn.v) turn.invariant.1 ∙ filled_more (λ k. (7 * k + 3) % 256) start.buf.now turn.i turn.v (omega arith) turn.invariant.3,
       simp length-set (omega arith),
-      c.wrapping_add_u8-v.ensures ∙ byte_next turn.i turn.invariant.3,
+      c.wrapping_add_u8-v.ensures.value ∙ byte_next turn.i turn.invariant.3,
     )
 
 pub returns : goal.returns

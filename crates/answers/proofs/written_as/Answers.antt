@@ -11,4 +11,4 @@ pub returns : goal.returns
 returns c =
     let put = c.put_before in
     λ e.
-    written_agrees _ _ put.ensures put.kept.0 c.write_to-verdict.ensures (sym c.number.ensures ∙ c.if-number.false) (sym c.same.ensures ∙ e)
+    written_agrees _ _ put.ensures put.auto.buf c.write_to-verdict.ensures (sym c.number.ensures ∙ c.if-number.false) (sym c.same.ensures ∙ e)

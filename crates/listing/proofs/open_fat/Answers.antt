@@ -26,4 +26,4 @@ all_whole c = shortest_is (lent c) (fat-whole c) (omega arith) (omega arith) (om
 pub returns : goal.returns
 returns c =
     let passed = goal.at.returns c in
-    opened_fat (img passed.After-open-opened) _ (lent passed.After-open-opened) _ _ c.requires (fat-whole passed.After-open-opened) (all_whole passed.After-open-opened) c.«open».ensures
+    opened_fat (img passed.After-open-opened) _ (lent passed.After-open-opened) _ _ c.requires (fat-whole passed.After-open-opened) (all_whole passed.After-open-opened) c.open-opened.ensures
