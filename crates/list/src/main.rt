@@ -2,24 +2,40 @@
 // sectors there are and how many are FREE, then the FAT as `prettify` lists it, one item a line; or why it is refused.
 #![tactic(auto)]
 
-ghost use Rattle.std.specs.Prelude.{◌≡◌, take};
+ghost use Rattle.std.specs.Prelude.{◌≡◌, ◌≤◌, length, take};
 ghost use Rattle.listing.specs.Listing.{listing};
 
-use libc::{STDIN_FILENO, STDOUT_FILENO};
 use listing::list_text;
+use std::io::Read;
 
-// Writes a text, which can only be the listing of the first n bytes of the buffer that was read into.
-fn write_listing(input: &[u8; 65537], n: usize, text: &[u8])
+// Reads until buf is full, the input ends or a read fails, and returns how many bytes it put at the start of buf.
+fn read_full(input: &mut impl Read, buf: &mut [u8]) -> usize
+    ensures { result ≤ length buf.new }
+{
+    let mut done = 0;
+    while done < buf.len() {
+        let n = input.read(&mut buf[done..]).unwrap_or(0);
+        if n == 0 {
+            break;
+        }
+        done += n;
+    }
+    done
+}
+
+// Writes a text, which can only be the listing of the first n bytes of the buffer that was read into. A write that fails
+// ends the output.
+fn write_listing(rt: &impl Print, input: &[u8; 65537], n: usize, text: &[u8])
     requires { text.now ≡ listing (take n input.now) }
 {
-    io::write_all(STDOUT_FILENO, text);
+    let _ = rt.write_all(text);
 }
 
 // Reads one byte more than an image may have, so that a longer input is told from the longest.
-fn main() {
+fn main(rt: HostRuntime) {
     let mut input = [0u8; 65537];
-    let n = io::read_full(STDIN_FILENO, &mut input);
+    let n = read_full(&mut rt.stdin(), &mut input);
     let mut text = [0u8; 4096];
     let len = list_text(&input[..n], &mut text);
-    write_listing(&input, n, &text[..len]);
+    write_listing(&rt, &input, n, &text[..len]);
 }

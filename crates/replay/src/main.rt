@@ -7,9 +7,9 @@ ghost use Rattle.replay.specs.Agrees.{Agrees, Replays};
 ghost use Rattle.replay.specs.declared.Replayed.TheVariants.{Same};
 
 use answers::{same_list, same_read, same_write};
-use libc::{STDIN_FILENO, STDOUT_FILENO};
 use openings::same_image;
 use records::RECORD;
+use std::io::Read;
 
 // How many records are replayed at most: nothing says that the input ends.
 const MOST: u64 = 100_000;
@@ -54,13 +54,12 @@ fn same_answer(case: &[u8]) -> bool
     }
 }
 
-// Reads the next record into the buffer and replays it there; a short read ends the list. No contract can say which bytes
-// are read: `Same` is said of those that the buffer then holds.
-fn replay_next(case: &mut [u8; 1024]) -> Replayed
+// Reads the next record into the buffer and replays it there; input that ends or fails before the record is full ends the
+// list. No contract can say which bytes are read: `Same` is said of those that the buffer then holds.
+fn replay_next(input: &mut impl Read, case: &mut [u8; 1024]) -> Replayed
     ensures { result ≡ Same → Agrees case.new }
 {
-    let n = io::read_full(STDIN_FILENO, case);
-    if n < 1024 {
+    if input.read_exact(case).is_err() {
         return Replayed::Ended;
     }
     if same_answer(case) {
@@ -70,21 +69,20 @@ fn replay_next(case: &mut [u8; 1024]) -> Replayed
 }
 
 // Writes the line of an answer that differs, with its place in the list, from 1 on.
-fn say_place(place: u64) {
-    io::write_all(STDOUT_FILENO, b"differs ");
-    io::print_decimal(STDOUT_FILENO, place);
-    io::write_all(STDOUT_FILENO, b"\n");
+fn say_place(rt: &impl Print, place: u64) {
+    let _ = println!(rt; "differs {place}");
 }
 
 // Replays the list to its end and names each answer that differs.
-fn replay_all() -> Sum
+fn replay_all(rt: &(impl Input + Print)) -> Sum
     ensures { Replays result.answers result.differ }
 {
+    let mut input = rt.reader();
     let mut case = [0u8; 1024];
     let mut answers: u64 = 0;
     let mut differ: u64 = 0;
     while answers < MOST {
-        let next = replay_next(&mut case);
+        let next = replay_next(&mut input, &mut case);
         match next {
             Replayed::Ended => {
                 return Sum { answers, differ };
@@ -95,7 +93,7 @@ fn replay_all() -> Sum
             Replayed::Differs => {
                 answers += 1;
                 differ += 1;
-                say_place(answers);
+                say_place(rt, answers);
             }
         }
     }
@@ -103,17 +101,15 @@ fn replay_all() -> Sum
 }
 
 // Writes how many answers there were, and how many differ, which can only be what a replay counts.
-fn say_sum(sum: Sum)
+fn say_sum(rt: &impl Print, sum: Sum)
     requires { Replays sum.answers sum.differ }
 {
-    io::print_decimal(STDOUT_FILENO, sum.answers);
-    io::write_all(STDOUT_FILENO, b" answers, ");
-    io::print_decimal(STDOUT_FILENO, sum.differ);
-    io::write_all(STDOUT_FILENO, b" differ\n");
+    let Sum { answers, differ } = sum;
+    let _ = println!(rt; "{answers} answers, {differ} differ");
 }
 
 // Replays the list and says what came of it.
-fn main() {
-    let sum = replay_all();
-    say_sum(sum);
+fn main(rt: HostRuntime) {
+    let sum = replay_all(&rt);
+    say_sum(&rt, sum);
 }

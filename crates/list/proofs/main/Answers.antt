@@ -2,7 +2,6 @@
 use mathlib.Core.Path.{sym}
 use lib.Seq.{length-take-le}
 use Rattle.listing.proofs.Opened.{put_front}
-use borrow.Author.Rules.{rules}
 use Rattle.list.proofs.main.Goals as goal
 
 pub slice_bounds-text-end : goal.slice_bounds-text-end

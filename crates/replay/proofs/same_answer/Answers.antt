@@ -1,7 +1,6 @@
 -- `same_answer` meets its contract: each kind of record by its own comparison. Assumes nothing.
 use Rattle.replay.specs.Agrees.{Agrees}
 use Rattle.records.proofs.Held.{never}
-use borrow.Author.Rules.{rules}
 use Rattle.replay.proofs.same_answer.Goals as goal
 
 pub returns-then-case-ne-RECORD : goal.returns-then-case-ne-RECORD
