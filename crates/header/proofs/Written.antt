@@ -9,7 +9,7 @@ use borrow.Author.Tests.{ne_eqb, eqb-true, eqb-false, not-false}
 use lib.Dec.{eqb}
 use lib.ListN.{length, get_or, length-append, get_or-append}
 use lib.Seq.{get_or-append-add}
-use Rattle.lists.specs.Lists.{both, splice, part, Below}
+use Rattle.lists.specs.Lists.{splice, part, Below}
 use Rattle.lists.specs.Rows.{refusal, distinct, fresh}
 use Rattle.lists.proofs.Cases.{either_none}
 use Rattle.lists.proofs.Rows.{given_none}

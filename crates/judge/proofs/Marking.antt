@@ -10,7 +10,7 @@ use borrow.Author.Tests.{eq-eqb, eqb-true}
 use lib.Dec.{eqb}
 use lib.ListN.{length, get_or, set, drop, length-set, drop_of_length-le}
 use lib.Seq.{drop-cons, get_or-set_same, get_or-set_other, set-get_or}
-use Rattle.lists.specs.Lists.{both, every}
+use Rattle.lists.specs.Lists.{both}
 use Rattle.lists.proofs.Cases.{same_or, both_left, both_right, every_at, every_of}
 use Rattle.consts.specs.Consts.{difat_sector, fat_sector}
 use Rattle.judge.specs.Judge.{all_marked, set_all, marked_fat}

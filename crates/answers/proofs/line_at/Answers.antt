@@ -1,5 +1,4 @@
 -- `line_at` meets its contract: the text was compared where it is to stand, and a line feed after it. Assumes nothing.
-use Rattle.records.proofs.Held.{not-false}
 use Rattle.answers.proofs.Agreed.{part_between}
 use Rattle.std.proofs.Common.{sym, ◌∙◌, length-take-le, rules}
 use Rattle.answers.proofs.Lined.{no_line, line_stands}

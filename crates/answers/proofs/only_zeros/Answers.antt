@@ -1,4 +1,4 @@
-use Rattle.std.proofs.Common.{◌≡◌, ℕ, ◌-◌, ◌<◌, ◌≤◌, length, get_or, arith}
+use Rattle.std.proofs.Common.{arith}
 use Rattle.records.proofs.Held.{never}
 use Rattle.answers.proofs.Lined.{zeros_more, zeros_all}
 use Rattle.answers.proofs.only_zeros.Goals as goal

@@ -1,7 +1,5 @@
 -- `only_zeros` meets its contract: so far every byte from `at` on is zero. Assumes nothing.
-use Rattle.std.proofs.Common.{◌≡◌, ℕ, ◌-◌, ◌<◌, ◌≤◌, length, get_or, arith}
-use Rattle.records.proofs.Held.{never}
-use Rattle.answers.proofs.Lined.{zeros_more, zeros_all}
+use Rattle.std.proofs.Common.{◌≡◌, ℕ, ◌-◌, ◌<◌, ◌≤◌, length, get_or}
 use Rattle.answers.proofs.only_zeros.Given as goal
 
 abbrev pub invariant-loop-i : goal.invariant-loop-i

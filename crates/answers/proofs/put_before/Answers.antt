@@ -1,5 +1,4 @@
-use Rattle.std.proofs.Common.{◌≡◌, ℕ, ◌+◌, ◌-◌, ◌*◌, ◌%◌, ◌≤◌, List, ◌++◌, length, drop, set, refl, ap, ◌∙◌, arith, length-set, rules}
-use Rattle.lists.specs.Lists.{tab}
+use Rattle.std.proofs.Common.{ℕ, ◌+◌, ◌*◌, ◌%◌, List, set, refl, ap, ◌∙◌, arith, length-set}
 use Rattle.lists.proofs.Tab.{filled_none, filled_more}
 use Rattle.answers.specs.Answers.{before as bytes_before}
 use Rattle.records.proofs.Held.{filled_all}

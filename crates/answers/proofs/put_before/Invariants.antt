@@ -1,10 +1,6 @@
 -- `put_before` meets its contract: so far the bytes below i are put, and v is the next. Assumes nothing.
-use Rattle.std.proofs.Common.{◌≡◌, ℕ, ◌+◌, ◌-◌, ◌*◌, ◌%◌, ◌≤◌, List, ◌++◌, length, drop, set, refl, ap, ◌∙◌, arith, length-set, rules}
+use Rattle.std.proofs.Common.{◌≡◌, ◌+◌, ◌-◌, ◌*◌, ◌%◌, ◌≤◌, ◌++◌, length, drop}
 use Rattle.lists.specs.Lists.{tab}
-use Rattle.lists.proofs.Tab.{filled_none, filled_more}
-use Rattle.answers.specs.Answers.{before as bytes_before}
-use Rattle.records.proofs.Held.{filled_all}
-use Rattle.answers.proofs.Agreed.{byte_next}
 use Rattle.answers.proofs.put_before.Given as goal
 
 abbrev pub invariant-loop-i : goal.invariant-loop-i

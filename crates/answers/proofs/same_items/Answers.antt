@@ -1,6 +1,6 @@
-use Rattle.std.proofs.Common.{◌-◌, ◌≤◌, arith, rules}
+use Rattle.std.proofs.Common.{arith}
 use Rattle.records.proofs.Held.{never}
-use Rattle.answers.proofs.Lined.{Rest, text_taken, rest_more, rest_none, rest_whole}
+use Rattle.answers.proofs.Lined.{text_taken, rest_more, rest_none, rest_whole}
 use Rattle.answers.proofs.same_items.Goals as goal
 
 pub loop-items-init : goal.loop-items-init

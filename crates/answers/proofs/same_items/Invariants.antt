@@ -1,7 +1,6 @@
 -- `same_items` meets its contract: what is left to agree from here is the whole. Assumes nothing.
-use Rattle.std.proofs.Common.{◌-◌, ◌≤◌, arith, rules}
-use Rattle.records.proofs.Held.{never}
-use Rattle.answers.proofs.Lined.{Rest, text_taken, rest_more, rest_none, rest_whole}
+use Rattle.std.proofs.Common.{◌-◌, ◌≤◌}
+use Rattle.answers.proofs.Lined.{Rest}
 use Rattle.answers.proofs.same_items.Given as goal
 
 abbrev pub invariant-loop-items : goal.invariant-loop-items

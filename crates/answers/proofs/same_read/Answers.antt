@@ -1,5 +1,5 @@
 -- `same_read` meets its contract: the tests that are passed are the agreement. Assumes nothing.
-use Rattle.std.proofs.Common.{sym, ◌∙◌, rules}
+use Rattle.std.proofs.Common.{sym, ◌∙◌}
 use Rattle.lists.specs.Lists.{part}
 use Rattle.records.proofs.Held.{never}
 use Rattle.answers.proofs.Agreed.{part_between, version_at, read_agrees}

@@ -1,5 +1,5 @@
 -- `written_as` meets its contract: the writer's own, over the bytes that `put_before` puts. Assumes nothing.
-use Rattle.std.proofs.Common.{sym, ◌∙◌, rules}
+use Rattle.std.proofs.Common.{sym, ◌∙◌}
 use Rattle.records.proofs.Held.{never}
 use Rattle.answers.proofs.Agreed.{written_agrees}
 use Rattle.answers.proofs.written_as.Goals as goal

@@ -1,9 +1,7 @@
-use Prim.Native.Nat.{◌-◌}
 use native.Mathlib.Omega.{arith}
-use borrow.Author.Rules.{rules}
 use lib.ListN.{length-take}
 use Rattle.chain.specs.Bytes.{read_count}
-use Rattle.chain.proofs.Reading.{Reading, reading_begun, reading_fits, reading_within, reading_length, reading_over, reading_stands, reading_on}
+use Rattle.chain.proofs.Reading.{reading_begun, reading_fits, reading_within, reading_length, reading_over, reading_stands, reading_on}
 use Rattle.chain.proofs.Standing.{stands_id, stands_byte, run_inside, run_less}
 use Rattle.chain.proofs.read.Goals as goal
 

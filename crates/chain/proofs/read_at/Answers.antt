@@ -6,7 +6,6 @@ use native.Mathlib.Omega.{arith}
 use lib.ListN.{length}
 use Rattle.lists.specs.Lists.{part}
 use Rattle.sectors.proofs.Laws.{scaled, lent_sector}
-use borrow.Author.Rules.{rules}
 use Rattle.chain.proofs.read_at.Goals as goal
 
 pub overflow_add-a : goal.overflow_add-a

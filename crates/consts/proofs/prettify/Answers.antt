@@ -1,7 +1,6 @@
 -- `consts::prettify` meets its contract: each arm of the match is a law of the item that such an entry begins. Sums stay below the length of the entries. Assumes nothing.
 use native.Mathlib.Omega.{arith}
 use mathlib.Core.Path.{refl}
-use borrow.Author.Rules.{rules}
 use Rattle.consts.specs.Consts.{difat_sector, fat_sector, free_sector}
 use Rattle.consts.proofs.Items.{item_past, item_end, item_count, item_range, counts_free, counts_fat, counts_difat, run_within, range_within}
 use Rattle.consts.proofs.prettify.Goals as goal

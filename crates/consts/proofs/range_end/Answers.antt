@@ -1,7 +1,5 @@
-use Prim.Native.Nat.{◌-◌}
 use native.Mathlib.Omega.{arith}
-use lib.ListN.{length}
-use Rattle.consts.proofs.Runs.{Ranging, ranging_begun, ranging_on, ranging_full, ranging_stopped, ranging_over}
+use Rattle.consts.proofs.Runs.{ranging_begun, ranging_on, ranging_full, ranging_stopped, ranging_over}
 use Rattle.consts.proofs.range_end.Goals as goal
 
 pub loop-i-init : goal.loop-i-init

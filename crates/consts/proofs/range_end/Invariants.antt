@@ -1,8 +1,7 @@
 -- `consts::range_end` meets its contract. The loop keeps that what is left, begun at `end`, leads to the same last number. Assumes nothing.
 use Prim.Native.Nat.{◌-◌}
-use native.Mathlib.Omega.{arith}
 use lib.ListN.{length}
-use Rattle.consts.proofs.Runs.{Ranging, ranging_begun, ranging_on, ranging_full, ranging_stopped, ranging_over}
+use Rattle.consts.proofs.Runs.{Ranging}
 use Rattle.consts.proofs.range_end.Given as goal
 
 abbrev pub invariant-loop-i : goal.invariant-loop-i

@@ -1,7 +1,4 @@
-use Prim.Native.Nat.{◌-◌}
-use native.Mathlib.Omega.{arith}
-use lib.ListN.{length}
-use Rattle.consts.proofs.Runs.{Counting, counting_begun, counting_on, counting_stopped, counting_over}
+use Rattle.consts.proofs.Runs.{counting_begun, counting_on, counting_stopped, counting_over}
 use Rattle.consts.proofs.run_of.Goals as goal
 
 pub loop-past-init : goal.loop-past-init

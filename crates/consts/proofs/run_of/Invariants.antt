@@ -1,8 +1,7 @@
 -- `consts::run_of` meets its contract. The loop keeps that what it counted, with the run that is left, is the whole run. Assumes nothing.
 use Prim.Native.Nat.{◌-◌}
-use native.Mathlib.Omega.{arith}
 use lib.ListN.{length}
-use Rattle.consts.proofs.Runs.{Counting, counting_begun, counting_on, counting_stopped, counting_over}
+use Rattle.consts.proofs.Runs.{Counting}
 use Rattle.consts.proofs.run_of.Given as goal
 
 abbrev pub invariant-loop-past : goal.invariant-loop-past

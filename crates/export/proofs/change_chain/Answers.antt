@@ -1,8 +1,6 @@
 -- Words that hold no state are refused by 19; else the call on the state that they hold decides, and its answer and state are given as words.
 use mathlib.Core.Path.{sym, ◌∙◌}
-use borrow.Author.Tests.{not-true, not-false}
 use Rattle.export.proofs.Changing.{change_refused, edit_given}
-use borrow.Author.Rules.{rules}
 use Rattle.export.proofs.change_chain.Goals as goal
 
 pub returns-then-not-holds_state : goal.returns-then-not-holds_state

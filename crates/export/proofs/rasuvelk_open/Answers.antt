@@ -1,5 +1,4 @@
 -- `rasuvelk_open` meets its contract: it gives the number, the words of the state and the tables that the opening leaves.
-use borrow.Author.Rules.{rules}
 use Rattle.export.proofs.Answers.{opening_gives}
 use Rattle.export.proofs.rasuvelk_open.Goals as goal
 

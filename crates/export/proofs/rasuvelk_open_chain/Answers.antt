@@ -1,8 +1,6 @@
 -- Words that hold no state are refused by 19; else the call on the state that they hold decides.
 use mathlib.Core.Path.{sym, ◌∙◌}
-use borrow.Author.Tests.{not-true, not-false}
 use Rattle.export.proofs.Giving.{open_refused, open_given}
-use borrow.Author.Rules.{rules}
 use Rattle.export.proofs.rasuvelk_open_chain.Goals as goal
 
 pub returns-then-not-holds_state : goal.returns-then-not-holds_state

@@ -1,7 +1,6 @@
 -- `rasuvelk_prettify` meets its contract: the numbers of the item that `prettify` gives. Assumes nothing.
 use mathlib.Core.Path.{◌∙◌, ap}
 use Rattle.items.specs.Items.{item_number, item_numbers}
-use borrow.Author.Rules.{rules}
 use Rattle.export.proofs.rasuvelk_prettify.Goals as goal
 
 pub returns : goal.returns

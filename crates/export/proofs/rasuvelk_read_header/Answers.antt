@@ -2,7 +2,6 @@
 use mathlib.Core.Path.{◌∙◌, ap}
 use Rattle.layout.specs.Layout.{words_of}
 use Rattle.export.proofs.Answers.{reading_number, reading_header}
-use borrow.Author.Rules.{rules}
 use Rattle.export.proofs.rasuvelk_read_header.Goals as goal
 
 pub returns : goal.returns

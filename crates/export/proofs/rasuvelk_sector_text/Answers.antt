@@ -2,7 +2,6 @@
 use mathlib.Core.Path.{◌∙◌, ap}
 use Rattle.texts.specs.declared.Text.{Text}
 use Rattle.items.specs.Items.{named_text}
-use borrow.Author.Rules.{rules}
 use Rattle.export.proofs.rasuvelk_sector_text.Goals as goal
 
 pub returns : goal.returns

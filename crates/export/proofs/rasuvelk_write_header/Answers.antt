@@ -1,7 +1,6 @@
 -- `rasuvelk_write_header` meets its contract: a first word that names no version is refused, and else the writer decides. Assumes nothing.
 use mathlib.Core.Path.{◌∙◌}
 use Rattle.export.proofs.Answers.{unwritten_number, unwritten_bytes, written_number, written_bytes}
-use borrow.Author.Rules.{rules}
 use Rattle.export.proofs.rasuvelk_write_header.Goals as goal
 
 pub returns-in_default : goal.returns-in_default

@@ -2,7 +2,6 @@
 use Prim.Native.Nat.{ℕ}
 use mathlib.Core.Path.{◌∙◌, sym, ap}
 use native.Mathlib.Omega.{arith}
-use borrow.Author.Rules.{rules}
 use Rattle.lists.specs.Lists.{splice}
 use Rattle.words.specs.Words.{digits}
 use Rattle.fields.proofs.Table.{number_below, number_fits, number_wide, stored_is}

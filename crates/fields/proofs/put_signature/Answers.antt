@@ -1,6 +1,5 @@
 -- The field's bytes are lent as a part of the buffer; the eight bytes copied over it are the signature.
 use Rattle.fields.proofs.Table.{signature_stored}
-use borrow.Author.Rules.{rules}
 use Rattle.fields.proofs.put_signature.Goals as goal
 
 pub returns : goal.returns

@@ -1,6 +1,5 @@
 -- The field's bytes are lent as a part of the buffer, filled with zeros and put back in their place.
 use native.Mathlib.Omega.{arith}
-use borrow.Author.Rules.{rules}
 use Rattle.fields.proofs.Table.{field_ends, zeros_stored}
 use Rattle.fields.proofs.put_zeros.Goals as goal
 

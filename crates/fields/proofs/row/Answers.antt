@@ -1,6 +1,5 @@
 -- The code's table is the definition's, row by row: both compute to the same list.
 use mathlib.Core.Path.{refl}
-use native.Mathlib.Omega.{arith}
 use Rattle.fields.proofs.row.Goals as goal
 
 pub returns : goal.returns

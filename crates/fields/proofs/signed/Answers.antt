@@ -5,7 +5,6 @@ use Prim.Native.Nat.{ℕ}
 use Rattle.lists.specs.Lists.{same_list}
 use Rattle.consts.specs.Consts.{signature}
 use Rattle.fields.proofs.Table.{part_lent}
-use borrow.Author.Rules.{rules}
 use Rattle.fields.proofs.signed.Goals as goal
 
 pub returns : goal.returns

@@ -1,9 +1,6 @@
-use Prim.Native.Nat.{◌-◌}
 use native.Mathlib.Omega.{arith}
-use lib.ListN.{length}
-use Rattle.fat.specs.Lists.{room_of}
 use Rattle.hand.proofs.Pointing.{point_inside}
-use Rattle.hand.proofs.Freeing.{Freeing, freeing_begun, freeing_id, freeing_listed, freeing_place, freeing_on, freeing_over}
+use Rattle.hand.proofs.Freeing.{freeing_begun, freeing_id, freeing_listed, freeing_place, freeing_on, freeing_over}
 use Rattle.hand.proofs.free_run.Goals as goal
 
 pub loop-j-init : goal.loop-j-init

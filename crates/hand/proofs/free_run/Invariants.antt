@@ -1,10 +1,8 @@
 -- The invariant: what is left to free from here on is the whole. A turn points the entry at FREE and lists the id.
 use Prim.Native.Nat.{◌-◌}
-use native.Mathlib.Omega.{arith}
 use lib.ListN.{length}
 use Rattle.fat.specs.Lists.{room_of}
-use Rattle.hand.proofs.Pointing.{point_inside}
-use Rattle.hand.proofs.Freeing.{Freeing, freeing_begun, freeing_id, freeing_listed, freeing_place, freeing_on, freeing_over}
+use Rattle.hand.proofs.Freeing.{Freeing}
 use Rattle.hand.proofs.free_run.Given as goal
 
 abbrev pub invariant-loop-j : goal.invariant-loop-j

@@ -2,7 +2,6 @@
 use mathlib.Core.Path.{sym}
 use native.Mathlib.Omega.{arith}
 use Rattle.hand.proofs.Linking.{linked_none, linked_of, last_inside}
-use borrow.Author.Rules.{rules}
 use Rattle.hand.proofs.link_last.Goals as goal
 
 pub returns-then-count-eq0 : goal.returns-then-count-eq0

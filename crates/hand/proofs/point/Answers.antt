@@ -1,6 +1,5 @@
 -- The old mark goes, the new one comes, and the entry is set.
 use Rattle.hand.proofs.Pointing.{pointed_of}
-use borrow.Author.Rules.{rules}
 use Rattle.hand.proofs.point.Goals as goal
 
 pub returns : goal.returns

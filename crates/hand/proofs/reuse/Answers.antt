@@ -1,6 +1,5 @@
 -- The entry is set, then the bytes are made zero.
 use Rattle.hand.proofs.Taking.{reused_of}
-use borrow.Author.Rules.{rules}
 use Rattle.hand.proofs.reuse.Goals as goal
 
 pub returns : goal.returns

@@ -1,6 +1,5 @@
 -- A number that is no sector's leaves the marks.
 use Rattle.hand.proofs.Pointing.{marked_below, marked_past}
-use borrow.Author.Rules.{rules}
 use Rattle.hand.proofs.set_mark.Goals as goal
 
 pub returns-then-i-n : goal.returns-then-i-n

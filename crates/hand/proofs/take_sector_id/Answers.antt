@@ -1,7 +1,6 @@
 -- An empty list has a new sector made; else the last of it is zeroed in the list, marked END and made zero.
 use native.Mathlib.Omega.{arith}
 use Rattle.hand.proofs.Taking.{stock_new, new_small, last_below, reuse_inside, taken_new, taken_free}
-use borrow.Author.Rules.{rules}
 use Rattle.hand.proofs.take_sector_id.Goals as goal
 
 pub new_sector-id-requires : goal.new_sector-id-requires

@@ -3,7 +3,6 @@ use native.Mathlib.Omega.{arith}
 use mathlib.Core.Path.{◌∙◌}
 use Rattle.items.specs.Items.{named_of}
 use Rattle.items.proofs.Naming.{named_at, named_none}
-use borrow.Author.Rules.{rules}
 use Rattle.items.proofs.item_named.Goals as goal
 
 pub returns-in-1 : goal.returns-in-1

@@ -1,6 +1,5 @@
 -- `items::item_numbers` meets its contract: its callees give the two numbers of the item that was found. Assumes nothing.
 use Rattle.items.proofs.Naming.{numbers_of_next}
-use borrow.Author.Rules.{rules}
 use Rattle.items.proofs.item_numbers.Goals as goal
 
 pub returns-in-Next : goal.returns-in-Next

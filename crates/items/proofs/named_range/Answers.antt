@@ -1,6 +1,5 @@
 -- `items::named_range` meets its contract: each test is one of the definition's. Assumes nothing.
 use Rattle.items.proofs.Naming.{range_known, range_begins_high, range_ends_high}
-use borrow.Author.Rules.{rules}
 use Rattle.items.proofs.named_range.Goals as goal
 
 pub returns-then-a-gt4294967295 : goal.returns-then-a-gt4294967295

@@ -1,6 +1,5 @@
 -- `layout::header_with` meets its contract: each number is read where the definition reads it, and `list_from` gives the list. Assumes nothing.
 use Rattle.layout.proofs.Placing.{list_held}
-use borrow.Author.Rules.{rules}
 use Rattle.layout.proofs.header_with.Goals as goal
 
 pub returns : goal.returns

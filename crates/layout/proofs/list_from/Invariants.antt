@@ -1,11 +1,8 @@
 -- `layout::list_from` meets its contract: so far the first i of the words behind the eight numbers are taken. Assumes nothing.
 use Prim.Native.Nat.{◌≤◌, ◌-◌}
-use mathlib.Core.Path.{◌≡◌, sym}
-use native.Mathlib.Omega.{arith}
-use lib.ListN.{length, take, drop, replicate}
+use mathlib.Core.Path.{◌≡◌}
+use lib.ListN.{take, drop, replicate}
 use Rattle.lists.specs.Lists.{splice}
-use Rattle.lists.proofs.Splice.{splice_nil}
-use Rattle.layout.proofs.Placing.{taken_more, taken_list}
 use Rattle.layout.proofs.list_from.Given as goal
 
 abbrev pub invariant-loop-i : goal.invariant-loop-i

@@ -1,6 +1,5 @@
 -- `layout::words_of` meets its contract: the eight numbers are stored over the zeros before the list. Assumes nothing.
 use Rattle.layout.proofs.Placing.{words_stored}
-use borrow.Author.Rules.{rules}
 use Rattle.layout.proofs.words_of.Goals as goal
 
 pub returns : goal.returns

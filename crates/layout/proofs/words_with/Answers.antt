@@ -1,8 +1,6 @@
-use Prim.Native.Nat.{◌≤◌, ◌-◌}
 use mathlib.Core.Path.{◌≡◌, sym}
 use native.Mathlib.Omega.{arith}
-use lib.ListN.{length, take, replicate}
-use Rattle.lists.specs.Lists.{splice}
+use lib.ListN.{length, replicate}
 use Rattle.lists.proofs.Splice.{splice_nil}
 use Rattle.layout.proofs.Placing.{placed_more, placed_all}
 use Rattle.layout.proofs.words_with.Goals as goal

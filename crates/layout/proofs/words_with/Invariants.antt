@@ -1,11 +1,8 @@
 -- `layout::words_with` meets its contract: so far the entries below i stand behind eight zeros. Assumes nothing.
 use Prim.Native.Nat.{◌≤◌, ◌-◌}
-use mathlib.Core.Path.{◌≡◌, sym}
-use native.Mathlib.Omega.{arith}
-use lib.ListN.{length, take, replicate}
+use mathlib.Core.Path.{◌≡◌}
+use lib.ListN.{take, replicate}
 use Rattle.lists.specs.Lists.{splice}
-use Rattle.lists.proofs.Splice.{splice_nil}
-use Rattle.layout.proofs.Placing.{placed_more, placed_all}
 use Rattle.layout.proofs.words_with.Given as goal
 
 abbrev pub invariant-loop-i : goal.invariant-loop-i

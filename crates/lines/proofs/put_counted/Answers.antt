@@ -5,7 +5,6 @@ use lib.ListN.{length}
 use Rattle.texts.specs.Text.{decimal_of}
 use Rattle.texts.proofs.Decimal.{decimal_of_usize}
 use Rattle.lines.proofs.Puts.{counted_put}
-use borrow.Author.Rules.{rules}
 use Rattle.lines.proofs.put_counted.Goals as goal
 use Rattle.lines.proofs.put_counted.Goals.{Start}
 

@@ -5,7 +5,6 @@ use lib.ListN.{length}
 use Rattle.lines.specs.Lines.{counted, sectors_word, free_word}
 use Rattle.lines.proofs.Fits.{counted_fit, counts_fit}
 use Rattle.lines.proofs.Puts.{counts_put}
-use borrow.Author.Rules.{rules}
 use Rattle.lines.proofs.put_counts.Goals as goal
 use Rattle.lines.proofs.put_counts.Goals.{Start}
 

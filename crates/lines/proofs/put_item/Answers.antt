@@ -4,7 +4,6 @@ use native.Mathlib.Omega.{arith}
 use lib.ListN.{length}
 use lib.Seq.{length-take-le}
 use Rattle.lines.proofs.Puts.{text_taken, text_within, text_put, line_length, line_put}
-use borrow.Author.Rules.{rules}
 use Rattle.lines.proofs.put_item.Goals as goal
 
 pub slice_bounds-bytes-end : goal.slice_bounds-bytes-end

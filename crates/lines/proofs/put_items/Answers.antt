@@ -1,8 +1,5 @@
-use Prim.Native.Nat.{◌-◌}
 use native.Mathlib.Omega.{arith}
-use lib.ListN.{length}
-use Rattle.lines.proofs.Puts.{Listing, listing_begun, listing_room, listing_on, listing_done, listing_over, item_ahead}
-use borrow.Author.Rules.{rules}
+use Rattle.lines.proofs.Puts.{listing_begun, listing_room, listing_on, listing_done, listing_over, item_ahead}
 use Rattle.lines.proofs.put_items.Goals as goal
 
 pub loop-i-init : goal.loop-i-init

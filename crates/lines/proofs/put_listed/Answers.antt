@@ -6,7 +6,6 @@ use Rattle.consts.specs.Pretty.{prettify_of}
 use Rattle.lines.specs.Lines.{counts_line, lines_of}
 use Rattle.lines.proofs.Fits.{counts_fit, items_fit}
 use Rattle.lines.proofs.Puts.{listed_put}
-use borrow.Author.Rules.{rules}
 use Rattle.lines.proofs.put_listed.Goals as goal
 use Rattle.lines.proofs.put_listed.Goals.{After-shared_slice_known-1, Start}
 

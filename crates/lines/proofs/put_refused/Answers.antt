@@ -5,7 +5,6 @@ use lib.ListN.{length}
 use Rattle.lines.specs.Lines.{counted, refused_word}
 use Rattle.lines.proofs.Fits.{counted_fit, refused_fit}
 use Rattle.lines.proofs.Puts.{refused_put}
-use borrow.Author.Rules.{rules}
 use Rattle.lines.proofs.put_refused.Goals as goal
 use Rattle.lines.proofs.put_refused.Goals.{Start}
 

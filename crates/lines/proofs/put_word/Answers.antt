@@ -1,6 +1,5 @@
 -- `put_word` meets its contract: the word is copied over the part that it fills. Assumes nothing.
 use Rattle.lines.proofs.Puts.{word_put}
-use borrow.Author.Rules.{rules}
 use Rattle.lines.proofs.put_word.Goals as goal
 
 pub returns : goal.returns

@@ -3,7 +3,6 @@ use mathlib.Core.Path.{sym}
 use native.Mathlib.Omega.{arith}
 use lib.Seq.{length-take-le}
 use Rattle.listing.proofs.Opened.{long_listing, refused_listing, accepted_within, accepted_short, accepted_listing}
-use borrow.Author.Rules.{rules}
 use Rattle.listing.proofs.list_text.Goals as goal
 
 pub returns-then-image-gt-MOST : goal.returns-then-image-gt-MOST

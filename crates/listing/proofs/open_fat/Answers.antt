@@ -6,7 +6,6 @@ use native.Mathlib.Omega.{arith}
 use lib.ListN.{length, replicate}
 use Rattle.alloc.specs.Opening.{Tables, shortest}
 use Rattle.listing.proofs.Opened.{shortest_is, opened_fat}
-use borrow.Author.Rules.{rules}
 use Rattle.listing.proofs.open_fat.Goals as goal
 use Rattle.listing.proofs.open_fat.Goals.{After-open-opened}
 

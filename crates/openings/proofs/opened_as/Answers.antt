@@ -1,7 +1,6 @@
 -- `opened_as` meets its contract: the opening's own, and that of the comparison of what it gave. Assumes nothing.
 use Rattle.openings.specs.Openings.{lent_tables}
 use Rattle.openings.proofs.Opened.{opening_said}
-use borrow.Author.Rules.{rules}
 use Rattle.openings.proofs.opened_as.Goals as goal
 
 pub returns : goal.returns

@@ -1,7 +1,6 @@
 -- `put_entries` meets its contract: FREE everywhere, and the entries copied over the front. Assumes nothing.
 use Rattle.lists.specs.Lists.{part}
 use Rattle.openings.proofs.Opened.{entries_put}
-use borrow.Author.Rules.{rules}
 use Rattle.openings.proofs.put_entries.Goals as goal
 
 pub returns : goal.returns

@@ -1,7 +1,6 @@
 -- `put_sectors` meets its contract: zeros everywhere, the header over them, and the entries over their sector. Assumes nothing.
 use Rattle.lists.specs.Lists.{part}
 use Rattle.openings.proofs.Opened.{sectors_put}
-use borrow.Author.Rules.{rules}
 use Rattle.openings.proofs.put_sectors.Goals as goal
 
 pub returns : goal.returns

@@ -1,8 +1,7 @@
 -- `record_says` meets its contract: the comparisons of the record's kind, and of a chain the call's own. Assumes nothing.
 use Rattle.openings.specs.Openings.{start_in, lent_ids, Says}
-use Rattle.records.proofs.Held.{never, not-false}
+use Rattle.records.proofs.Held.{never}
 use Rattle.openings.proofs.Opened.{chain_told}
-use borrow.Author.Rules.{rules}
 use Rattle.openings.proofs.record_says.Goals as goal
 
 pub returns-then-not-same_counts : goal.returns-then-not-same_counts

@@ -3,7 +3,6 @@ use mathlib.Core.Path.{◌∙◌}
 use native.Mathlib.Omega.{arith}
 use lib.Dec.{eqb→eq}
 use Rattle.records.proofs.Held.{never}
-use borrow.Author.Rules.{rules}
 use Rattle.openings.proofs.same_counts.Goals as goal
 
 pub returns-then-number-number_in : goal.returns-then-number-number_in

@@ -1,7 +1,6 @@
 -- `same_table` meets its contract: the table is compared with the numbers that were taken. Assumes nothing.
 use mathlib.Core.Path.{◌∙◌, sym}
 use Rattle.lists.proofs.Splice.{sameList_true}
-use borrow.Author.Rules.{rules}
 use Rattle.openings.proofs.same_table.Goals as goal
 
 pub returns : goal.returns

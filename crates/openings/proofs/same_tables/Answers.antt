@@ -1,9 +1,8 @@
 -- `same_tables` meets its contract: each table is compared with its place in the record. Assumes nothing.
 use mathlib.Core.Path.{◌∙◌, sym}
 use Rattle.lists.specs.Lists.{part}
-use Rattle.records.proofs.Held.{never, not-false}
+use Rattle.records.proofs.Held.{never}
 use Rattle.openings.proofs.Opened.{tables_same_lem}
-use borrow.Author.Rules.{rules}
 use Rattle.openings.proofs.same_tables.Goals as goal
 
 pub returns-then-not-same_table : goal.returns-then-not-same_table

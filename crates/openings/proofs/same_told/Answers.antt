@@ -3,7 +3,6 @@ use mathlib.Core.Path.{◌∙◌, sym}
 use native.Mathlib.Omega.{arith}
 use Rattle.lists.specs.Lists.{part}
 use Rattle.records.proofs.Held.{never}
-use borrow.Author.Rules.{rules}
 use Rattle.openings.proofs.same_told.Goals as goal
 
 pub returns-then-number-number_in : goal.returns-then-number-number_in

@@ -1,7 +1,6 @@
 -- The test is the definition's.
 use native.Mathlib.Omega.{arith}
 use mathlib.Core.Path.{sym}
-use borrow.Author.Rules.{rules}
 use Rattle.reader.proofs.Serving.{place_moves, place_stays}
 use Rattle.reader.proofs.place_after.Goals as goal
 

@@ -38,19 +38,19 @@ returns c =
     let difat = turn b 15 _ _ _ minifats.1 (omega arith) c.read_number-difat.ensures in
     let difats = turn b 16 _ _ _ difat.1 (omega arith) c.read_number-difats.ensures in
     λ i.
-        record {
-          minor = minor.0 i;
-          major = major.0 i;
-          order = order.0 i;
-          shift = shift.0 i;
-          mini = mini.0 i;
-          dirs = dirs.0 i;
-          fats = fats.0 i;
-          dir = dir.0 i;
-          transaction = transaction.0 i;
-          cutoff = cutoff.0 i;
-          minifat = minifat.0 i;
-          minifats = minifats.0 i;
-          difat = difat.0 i;
-          difats = difats.0 i;
-        }
+    record {
+      minor = minor.0 i;
+      major = major.0 i;
+      order = order.0 i;
+      shift = shift.0 i;
+      mini = mini.0 i;
+      dirs = dirs.0 i;
+      fats = fats.0 i;
+      dir = dir.0 i;
+      transaction = transaction.0 i;
+      cutoff = cutoff.0 i;
+      minifat = minifat.0 i;
+      minifats = minifats.0 i;
+      difat = difat.0 i;
+      difats = difats.0 i;
+    }

@@ -2,8 +2,6 @@
 use Prim.Native.Nat.{◌≤◌}
 use mathlib.Core.Path.{◌≡◌, sym, ◌∙◌}
 use mathlib.Core.Bool.{true}
-use borrow.Author.Tests.{not-true, not-false}
-use borrow.Author.Rules.{rules}
 use lib.ListN.{length}
 use Rattle.fields.specs.Fields.{holds_number}
 use Rattle.reader.proofs.Serving.{served_is, served_short, served_none}
@@ -25,7 +23,7 @@ returns-then-not-holds_number c =
     (sym c.holds_number.ensures ∙ c.if-not-holds_number.true))
 
 pub number_at-requires : goal.number_at-requires
-number_at-requires c = record {in_bounds = long c; place_value = holds c }
+number_at-requires c = record { in_bounds = long c; place_value = holds c }
 
 pub returns : goal.returns
 returns c =

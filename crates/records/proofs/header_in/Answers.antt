@@ -1,6 +1,5 @@
 -- `header_in` meets its contract: `take_numbers` takes the words, and `header_with` the header that they hold. Assumes nothing.
 use Rattle.records.proofs.Held.{header_held}
-use borrow.Author.Rules.{rules}
 use Rattle.records.proofs.header_in.Goals as goal
 
 pub returns : goal.returns

@@ -1,6 +1,5 @@
 -- `length_in` meets its contract: what `read16` reads. Assumes nothing.
 use Rattle.records.specs.Records.{length_in}
-use borrow.Author.Rules.{rules}
 use Rattle.records.proofs.length_in.Goals as goal
 
 pub returns : goal.returns

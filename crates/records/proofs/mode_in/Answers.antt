@@ -1,7 +1,6 @@
 -- `mode_in` meets its contract: a byte fits a wider number, and `mode_of` gives its mode. Assumes nothing.
 use native.Mathlib.Omega.{arith}
 use Rattle.records.specs.Records.{mode_in}
-use borrow.Author.Rules.{rules}
 use Rattle.records.proofs.mode_in.Goals as goal
 
 pub overflow_cast-case : goal.overflow_cast-case

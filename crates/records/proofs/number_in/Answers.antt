@@ -2,7 +2,6 @@
 use mathlib.Core.Path.{refl}
 use native.Mathlib.Omega.{arith}
 use Rattle.records.specs.Records.{number_in}
-use borrow.Author.Rules.{rules}
 use Rattle.records.proofs.number_in.Goals as goal
 
 pub overflow_cast-result : goal.overflow_cast-result

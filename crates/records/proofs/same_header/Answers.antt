@@ -1,7 +1,6 @@
 -- Headers that are found to be the same are one.
 use mathlib.Core.Path.{◌∙◌, sym}
 use Rattle.agree.proofs.Comparing.{header_exactly}
-use borrow.Author.Rules.{rules}
 use Rattle.records.proofs.same_header.Goals as goal
 
 pub returns : goal.returns

@@ -1,14 +1,10 @@
 -- `take_numbers` meets its contract: so far the first i places hold the first i numbers. Assumes nothing.
-use Prim.Native.Nat.{ℕ, ◌-◌, ◌≤◌, ◌*◌}
-use mathlib.Core.Path.{◌≡◌, refl, ◌∙◌, ap}
-use mathlib.Core.List.{List, ◌++◌}
-use native.Mathlib.Omega.{arith}
-use lib.ListN.{length, drop, set, length-set}
+use Prim.Native.Nat.{◌-◌, ◌≤◌, ◌*◌}
+use mathlib.Core.Path.{◌≡◌}
+use mathlib.Core.List.{◌++◌}
+use lib.ListN.{length, drop}
 use Rattle.lists.specs.Lists.{tab}
-use Rattle.lists.proofs.Tab.{filled_none, filled_more}
 use Rattle.words.specs.Words.{le}
-use Rattle.records.specs.Records.{numbers_in}
-use Rattle.records.proofs.Held.{filled_all}
 use Rattle.records.proofs.take_numbers.Given as goal
 
 abbrev pub invariant-loop-i : goal.invariant-loop-i

@@ -1,8 +1,8 @@
-use Prim.Native.Nat.{ℕ, ◌-◌}
+use Prim.Native.Nat.{ℕ}
 use mathlib.Core.Path.{sym, ap}
 use native.Mathlib.Omega.{arith}
 use lib.Dec.{leb}
-use Rattle.room.proofs.Needing.{Counts, counts_begun, counts_on, counts_over, counts_past}
+use Rattle.room.proofs.Needing.{counts_begun, counts_on, counts_over, counts_past}
 use Rattle.room.proofs.has_room.Goals as goal
 
 pub overflow_sub-room : goal.overflow_sub-room

@@ -1,9 +1,6 @@
 -- The invariant: what is left to count from here is the whole. Where fewer sectors are left than are asked for, nothing is counted.
-use Prim.Native.Nat.{ℕ, ◌-◌}
-use mathlib.Core.Path.{sym, ap}
-use native.Mathlib.Omega.{arith}
-use lib.Dec.{leb}
-use Rattle.room.proofs.Needing.{Counts, counts_begun, counts_on, counts_over, counts_past}
+use Prim.Native.Nat.{◌-◌}
+use Rattle.room.proofs.Needing.{Counts}
 use Rattle.room.proofs.has_room.Given as goal
 
 abbrev pub invariant-loop-i : goal.invariant-loop-i

@@ -3,7 +3,6 @@ use Prim.Native.Nat.{◌/◌}
 use mathlib.Core.Path.{sym, ◌∙◌}
 use native.Mathlib.Omega.{arith}
 use Rattle.room.proofs.Needing.{quotient_times, one_more_data, one_more_fat, one_more_difat}
-use borrow.Author.Rules.{rules}
 use Rattle.room.proofs.one_more.Goals as goal
 
 pub returns-then-n-each-ne0 : goal.returns-then-n-each-ne0

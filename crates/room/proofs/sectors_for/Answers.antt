@@ -3,7 +3,6 @@ use native.Mathlib.Omega.{arith}
 use native.Mathlib.Nat.{div-mul-le_self}
 use Rattle.fat.proofs.Listing.{ceil_few}
 use Rattle.room.proofs.Needing.{ceil_left, left_less}
-use borrow.Author.Rules.{rules}
 use Rattle.room.proofs.sectors_for.Goals as goal
 
 pub overflow_mul-left : goal.overflow_mul-left

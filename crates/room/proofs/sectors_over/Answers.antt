@@ -1,6 +1,5 @@
 -- What the chain has sectors for asks for none.
 use Rattle.room.proofs.Needing.{resize_within, resize_over}
-use borrow.Author.Rules.{rules}
 use Rattle.room.proofs.sectors_over.Goals as goal
 
 pub returns-then-need-count : goal.returns-then-need-count

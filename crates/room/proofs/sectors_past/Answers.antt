@@ -2,7 +2,6 @@
 use mathlib.Core.Path.{◌∙◌}
 use native.Mathlib.Omega.{arith}
 use Rattle.room.proofs.Needing.{write_within, write_over}
-use borrow.Author.Rules.{rules}
 use Rattle.room.proofs.sectors_past.Goals as goal
 
 pub returns-then-bytes-rest : goal.returns-then-bytes-rest

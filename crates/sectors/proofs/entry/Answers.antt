@@ -1,6 +1,5 @@
 -- An entry is by definition the four bytes from 4 j on.
 use Rattle.sectors.specs.Sectors.{entry_in}
-use borrow.Author.Rules.{rules}
 use Rattle.sectors.proofs.entry.Goals as goal
 
 pub returns : goal.returns

@@ -5,7 +5,6 @@ use Prim.Native.Nat.{ℕ, ◌+◌}
 use native.Mathlib.Omega.{arith}
 use Rattle.sectors.specs.Sectors.{entry_in}
 use Rattle.sectors.proofs.Laws.{scaled, lent_sector}
-use borrow.Author.Rules.{rules}
 use Rattle.sectors.proofs.entry_at.Goals as goal
 
 pub overflow_add-a : goal.overflow_add-a

@@ -5,7 +5,6 @@ use Prim.Native.Nat.{ℕ, ◌+◌}
 use native.Mathlib.Omega.{arith}
 use Rattle.sectors.specs.Sectors.{free_from}
 use Rattle.sectors.proofs.Laws.{scaled, lent_sector}
-use borrow.Author.Rules.{rules}
 use Rattle.sectors.proofs.free_at.Goals as goal
 
 pub overflow_add-a : goal.overflow_add-a

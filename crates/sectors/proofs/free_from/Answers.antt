@@ -1,7 +1,6 @@
-use Prim.Native.Nat.{ℕ, ◌+◌, ◌≤◌, ◌-◌}
+use Prim.Native.Nat.{ℕ, ◌+◌}
 use mathlib.Core.Path.{◌≡◌, refl, ◌∙◌, sym}
 use mathlib.Core.Bool.{Bool}
-use mathlib.Core.Logic.{⊎_elim}
 use native.Mathlib.Omega.{arith}
 use borrow.Author.Tests.{eq-eqb, ne_eqb}
 use Rattle.lists.specs.Lists.{every}
@@ -21,7 +20,7 @@ loop-j-preserved c = let l = c.loop-j in
     let r = c.read32 in (
       omega arith,
       elim c.if-read32.branch [
-        then-read32 w ↦ every_no f l.j c.if-read32.free (ne_eqb _ _ (λ e. w.if-read32.true (r.ensures ∙ e))) w.free-is
+        | then-read32 w ↦ every_no f l.j c.if-read32.free (ne_eqb _ _ (λ e. w.if-read32.true (r.ensures ∙ e))) w.free-is
         | else-read32 w ↦ every_yes f l.j l.free c.if-read32.free (eq-eqb _ _ (sym r.ensures ∙ w.if-read32.false)) l.invariant.1 w.free-is
       ],
     )

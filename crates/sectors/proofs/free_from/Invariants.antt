@@ -1,13 +1,8 @@
 -- The invariant: the flag says whether the j entries passed are all FREE.
-use Prim.Native.Nat.{ℕ, ◌+◌, ◌≤◌, ◌-◌}
-use mathlib.Core.Path.{◌≡◌, refl, ◌∙◌, sym}
-use mathlib.Core.Bool.{Bool}
-use mathlib.Core.Logic.{⊎_elim}
-use native.Mathlib.Omega.{arith}
-use borrow.Author.Tests.{eq-eqb, ne_eqb}
+use Prim.Native.Nat.{◌+◌, ◌≤◌, ◌-◌}
+use mathlib.Core.Path.{◌≡◌}
 use Rattle.lists.specs.Lists.{every}
-use Rattle.lists.proofs.Cases.{every_yes, every_no}
-use Rattle.sectors.specs.Sectors.{entry_in, free_at, free_from}
+use Rattle.sectors.specs.Sectors.{free_at}
 use Rattle.sectors.proofs.free_from.Given as goal
 
 abbrev pub invariant-loop-j : goal.invariant-loop-j

@@ -1,9 +1,8 @@
-use Prim.Native.Nat.{ℕ, ◌≤◌, ◌-◌}
-use mathlib.Core.Path.{◌≡◌, refl, ◌∙◌, ap}
-use mathlib.Core.List.{List, ◌++◌}
+use Prim.Native.Nat.{ℕ}
+use mathlib.Core.Path.{refl, ◌∙◌, ap}
+use mathlib.Core.List.{List}
 use native.Mathlib.Omega.{arith}
-use lib.ListN.{length, drop, set, length-set}
-use Rattle.lists.specs.Lists.{tab}
+use lib.ListN.{set, length-set}
 use Rattle.lists.proofs.Tab.{filled_none, filled_more, filled_all}
 use Rattle.sectors.specs.Sectors.{entry_in}
 use Rattle.sectors.proofs.load.Goals as goal

@@ -1,11 +1,9 @@
 -- The invariant: out holds the entries below j, and from j on what it held before.
-use Prim.Native.Nat.{ℕ, ◌≤◌, ◌-◌}
-use mathlib.Core.Path.{◌≡◌, refl, ◌∙◌, ap}
-use mathlib.Core.List.{List, ◌++◌}
-use native.Mathlib.Omega.{arith}
-use lib.ListN.{length, drop, set, length-set}
+use Prim.Native.Nat.{◌≤◌, ◌-◌}
+use mathlib.Core.Path.{◌≡◌}
+use mathlib.Core.List.{◌++◌}
+use lib.ListN.{length, drop}
 use Rattle.lists.specs.Lists.{tab}
-use Rattle.lists.proofs.Tab.{filled_none, filled_more, filled_all}
 use Rattle.sectors.specs.Sectors.{entry_in}
 use Rattle.sectors.proofs.load.Given as goal
 

@@ -7,7 +7,6 @@ use lib.ListN.{length}
 use Rattle.lists.specs.Lists.{tab}
 use Rattle.sectors.specs.Sectors.{entry_in}
 use Rattle.sectors.proofs.Laws.{scaled, lent_sector}
-use borrow.Author.Rules.{rules}
 use Rattle.sectors.proofs.load_at.Goals as goal
 
 pub overflow_add-a : goal.overflow_add-a

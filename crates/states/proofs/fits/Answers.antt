@@ -1,8 +1,6 @@
-use Prim.Native.Nat.{◌+◌, ◌≤◌, ◌-◌}
 use mathlib.Core.Path.{◌≡◌, refl}
 use native.Mathlib.Omega.{arith}
-use lib.ListN.{length, drop}
-use Rattle.states.specs.States.{fits_in}
+use lib.ListN.{length}
 use Rattle.states.proofs.Holding.{fits_more, fits_stop, fits_end}
 use Rattle.states.proofs.fits.Goals as goal
 

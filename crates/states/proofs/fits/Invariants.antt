@@ -1,10 +1,8 @@
 -- The invariant: all words fit exactly when those from i on do.
 use Prim.Native.Nat.{◌+◌, ◌≤◌, ◌-◌}
-use mathlib.Core.Path.{◌≡◌, refl}
-use native.Mathlib.Omega.{arith}
-use lib.ListN.{length, drop}
+use mathlib.Core.Path.{◌≡◌}
+use lib.ListN.{drop}
 use Rattle.states.specs.States.{fits_in}
-use Rattle.states.proofs.Holding.{fits_more, fits_stop, fits_end}
 use Rattle.states.proofs.fits.Given as goal
 
 abbrev pub invariant-loop-i : goal.invariant-loop-i

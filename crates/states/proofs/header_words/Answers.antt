@@ -1,8 +1,6 @@
-use Prim.Native.Nat.{◌≤◌, ◌-◌}
 use mathlib.Core.Path.{◌≡◌, sym}
 use native.Mathlib.Omega.{arith}
-use lib.ListN.{length, take, drop, replicate}
-use Rattle.lists.specs.Lists.{splice}
+use lib.ListN.{length, replicate}
 use Rattle.lists.proofs.Splice.{splice_nil}
 use Rattle.states.proofs.Holding.{fits_word}
 use Rattle.layout.proofs.Placing.{taken_more, taken_list}

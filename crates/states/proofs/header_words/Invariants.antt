@@ -1,12 +1,8 @@
 -- So far the first i of the header's words are taken; each of them fits.
 use Prim.Native.Nat.{◌≤◌, ◌-◌}
-use mathlib.Core.Path.{◌≡◌, sym}
-use native.Mathlib.Omega.{arith}
-use lib.ListN.{length, take, drop, replicate}
+use mathlib.Core.Path.{◌≡◌}
+use lib.ListN.{take, drop, replicate}
 use Rattle.lists.specs.Lists.{splice}
-use Rattle.lists.proofs.Splice.{splice_nil}
-use Rattle.states.proofs.Holding.{fits_word}
-use Rattle.layout.proofs.Placing.{taken_more, taken_list}
 use Rattle.states.proofs.header_words.Given as goal
 
 abbrev pub invariant-loop-i : goal.invariant-loop-i

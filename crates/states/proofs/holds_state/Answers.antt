@@ -1,8 +1,6 @@
 -- The three tests are the definition's, in its order.
 use mathlib.Core.Path.{sym, ◌∙◌}
-use borrow.Author.Tests.{not-true, not-false}
 use Rattle.states.proofs.Holding.{mode_high, version_none, words_fit}
-use borrow.Author.Rules.{rules}
 use Rattle.states.proofs.holds_state.Goals as goal
 
 pub returns-then-words-gt1 : goal.returns-then-words-gt1

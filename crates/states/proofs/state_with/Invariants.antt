@@ -1,12 +1,8 @@
 -- `states::state_with` meets its contract: so far the words below i stand behind four zeros.
 use Prim.Native.Nat.{◌≤◌, ◌-◌}
-use mathlib.Core.Path.{◌≡◌, sym}
-use native.Mathlib.Omega.{arith}
-use borrow.Author.Rules.{rules}
-use lib.ListN.{length, take, replicate}
+use mathlib.Core.Path.{◌≡◌}
+use lib.ListN.{take, replicate}
 use Rattle.lists.specs.Lists.{splice}
-use Rattle.lists.proofs.Splice.{splice_nil}
-use Rattle.layout.proofs.Placing.{placed_more, placed_all}
 use Rattle.states.proofs.state_with.Given as goal
 
 abbrev pub invariant-loop-i : goal.invariant-loop-i

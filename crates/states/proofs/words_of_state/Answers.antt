@@ -1,5 +1,4 @@
 -- `states::words_of_state` meets its contract: the four numbers are stored over the zeros before the header's words.
-use borrow.Author.Rules.{rules}
 use Rattle.states.proofs.Holding.{state_stored}
 use Rattle.states.proofs.words_of_state.Goals as goal
 

@@ -1,6 +1,5 @@
 -- The part that is lent is as long as the run, so it comes back as the run.
 use Rattle.stores.proofs.Writing.{copied_run}
-use borrow.Author.Rules.{rules}
 use Rattle.stores.proofs.copy_into.Goals as goal
 
 pub returns : goal.returns

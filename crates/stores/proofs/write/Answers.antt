@@ -1,8 +1,6 @@
-use Prim.Native.Nat.{◌-◌}
 use native.Mathlib.Omega.{arith}
-use borrow.Author.Rules.{rules}
-use lib.ListN.{length, length-take}
-use Rattle.stores.proofs.Writing.{Writing, writing_begun, writing_length, writing_within, writing_over, writing_stands, writing_on}
+use lib.ListN.{length-take}
+use Rattle.stores.proofs.Writing.{writing_begun, writing_length, writing_within, writing_over, writing_stands, writing_on}
 use Rattle.chain.proofs.Standing.{stands_id, stands_byte, run_inside, run_less}
 use Rattle.stores.proofs.write.Goals as goal
 

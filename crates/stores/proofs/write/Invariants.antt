@@ -1,10 +1,7 @@
 -- The invariant: the first done bytes of buf are written. A turn copies a run of buf into the sector that the next byte goes to.
 use Prim.Native.Nat.{◌-◌}
-use native.Mathlib.Omega.{arith}
-use borrow.Author.Rules.{rules}
-use lib.ListN.{length, length-take}
-use Rattle.stores.proofs.Writing.{Writing, writing_begun, writing_length, writing_within, writing_over, writing_stands, writing_on}
-use Rattle.chain.proofs.Standing.{stands_id, stands_byte, run_inside, run_less}
+use lib.ListN.{length}
+use Rattle.stores.proofs.Writing.{Writing}
 use Rattle.stores.proofs.write.Given as goal
 
 abbrev pub invariant-loop-done : goal.invariant-loop-done

@@ -3,7 +3,6 @@ use Prim.Native.Nat.{◌+◌}
 use native.Mathlib.Omega.{arith}
 use Rattle.sectors.proofs.Laws.{scaled}
 use Rattle.stores.proofs.Zeroed.{zeros_back}
-use borrow.Author.Rules.{rules}
 use Rattle.stores.proofs.zero_at.Goals as goal
 
 pub overflow_add-a : goal.overflow_add-a

@@ -1,6 +1,5 @@
 -- The part that is lent is the rest of the sector, and it comes back as zeros.
 use Rattle.stores.proofs.Zeroed.{zeroed_run}
-use borrow.Author.Rules.{rules}
 use Rattle.stores.proofs.zero_from.Goals as goal
 
 pub returns : goal.returns

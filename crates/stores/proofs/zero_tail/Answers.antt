@@ -3,7 +3,6 @@ use native.Mathlib.Omega.{arith}
 use mathlib.Core.Path.{sym}
 use Rattle.chain.proofs.Standing.{stands_inside, stands_id, stands_byte}
 use Rattle.stores.proofs.Zeroed.{zero_begins, zero_run, zero_stands}
-use borrow.Author.Rules.{rules}
 use Rattle.stores.proofs.zero_tail.Goals as goal
 
 pub returns-then-x-eq0 : goal.returns-then-x-eq0
@@ -20,7 +19,7 @@ overflow_cast-id c = omega (arith, stands_id (zero_stands c.requires c.if-x-eq0.
 
 pub zero_at-requires : goal.zero_at-requires
 zero_at-requires c = let b = zero_stands c.requires c.if-x-eq0.false in
-    record {s_in_bounds = stands_inside b; s_nonzero = (b.lies.some, omega (arith, stands_byte b)) }
+    record { s_in_bounds = stands_inside b; s_nonzero = (b.lies.some, omega (arith, stands_byte b)) }
 
 pub returns : goal.returns
 returns c = zero_run _ _ _ _ c.requires c.if-x-eq0.false _ c.zero_at.ensures

@@ -5,7 +5,6 @@ use lib.ListN.{length}
 use Rattle.texts.specs.Text.{decimal_of}
 use Rattle.texts.proofs.Decimal.{decimal_of_usize}
 use Rattle.texts.proofs.Texts.{put_written}
-use borrow.Author.Rules.{rules}
 use Rattle.texts.proofs.digits_of.Goals as goal
 use Rattle.texts.proofs.digits_of.Goals.{Start}
 

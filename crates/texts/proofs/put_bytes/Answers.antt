@@ -1,7 +1,4 @@
-use Prim.Native.Nat.{◌-◌}
-use native.Mathlib.Omega.{arith}
-use lib.ListN.{length}
-use Rattle.texts.proofs.Puts.{Putting, putting_begun, putting_on, putting_over}
+use Rattle.texts.proofs.Puts.{putting_begun, putting_on, putting_over}
 use Rattle.texts.proofs.put_bytes.Goals as goal
 
 pub loop-i-init : goal.loop-i-init

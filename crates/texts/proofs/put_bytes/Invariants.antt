@@ -1,8 +1,7 @@
 -- `texts::put_bytes` meets its contract. The loop keeps that the first i bytes of the word are put, and nothing else. Assumes nothing.
 use Prim.Native.Nat.{◌-◌}
-use native.Mathlib.Omega.{arith}
 use lib.ListN.{length}
-use Rattle.texts.proofs.Puts.{Putting, putting_begun, putting_on, putting_over}
+use Rattle.texts.proofs.Puts.{Putting}
 use Rattle.texts.proofs.put_bytes.Given as goal
 
 abbrev pub invariant-loop-i : goal.invariant-loop-i

@@ -1,7 +1,6 @@
 -- `texts::put_range` meets its contract: the parts are put one after the other, and a u32 has at most 10 digits. Assumes nothing.
 use Prim.Native.Nat.{◌≤◌}
 use native.Mathlib.Omega.{arith}
-use borrow.Author.Rules.{rules}
 use lib.ListN.{length}
 use Rattle.texts.specs.Text.{decimal_of}
 use Rattle.texts.proofs.Decimal.{decimal_of_u32}

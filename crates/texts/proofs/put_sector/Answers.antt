@@ -1,7 +1,6 @@
 -- `texts::put_sector` meets its contract: each arm puts the text of its item, and 26 bytes hold the longest. Assumes nothing.
 use Rattle.texts.specs.Text.{text_of}
 use Rattle.texts.proofs.Texts.{put_known}
-use borrow.Author.Rules.{rules}
 use Rattle.texts.proofs.put_sector.Goals as goal
 
 pub returns-in-Free : goal.returns-in-Free

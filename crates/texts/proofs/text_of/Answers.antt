@@ -1,6 +1,5 @@
 -- `texts::text_of` meets its contract: the text stands at the front of 32 zeros. Assumes nothing.
 use Rattle.texts.proofs.Texts.{put_written}
-use borrow.Author.Rules.{rules}
 use Rattle.texts.proofs.text_of.Goals as goal
 
 pub returns : goal.returns

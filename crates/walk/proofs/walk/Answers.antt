@@ -1,9 +1,7 @@
-use Prim.Native.Nat.{◌-◌}
 use mathlib.Core.Path.{◌∙◌, sym}
 use native.Mathlib.Omega.{arith}
-use borrow.Author.Tests.{not-true, not-false}
-use lib.ListN.{length, length-set}
-use Rattle.walk.proofs.Listing.{Walks, walks_begun, walks_past, walks_length, walks_over, turn_sector, turn_most, turn_room, turn_on, turn_bad, turn_back}
+use lib.ListN.{length-set}
+use Rattle.walk.proofs.Listing.{walks_begun, walks_past, walks_length, walks_over, turn_sector, turn_most, turn_room, turn_on, turn_bad, turn_back}
 use Rattle.walk.proofs.walk.Goals as goal
 
 pub leads-requires : goal.leads-requires

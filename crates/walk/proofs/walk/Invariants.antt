@@ -1,10 +1,7 @@
 -- The invariant: count steps are taken and listed, and id is where they lead. A turn at a sector is a step to a different one, so at most n are taken.
 use Prim.Native.Nat.{◌-◌}
-use mathlib.Core.Path.{◌∙◌, sym}
-use native.Mathlib.Omega.{arith}
-use borrow.Author.Tests.{not-true, not-false}
-use lib.ListN.{length, length-set}
-use Rattle.walk.proofs.Listing.{Walks, walks_begun, walks_past, walks_length, walks_over, turn_sector, turn_most, turn_room, turn_on, turn_bad, turn_back}
+use lib.ListN.{length}
+use Rattle.walk.proofs.Listing.{Walks}
 use Rattle.walk.proofs.walk.Given as goal
 
 abbrev pub invariant-loop-id : goal.invariant-loop-id

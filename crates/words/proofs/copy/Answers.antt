@@ -1,10 +1,9 @@
-use Prim.Native.Nat.{ℕ, ◌≤◌, ◌-◌}
-use mathlib.Core.Path.{◌≡◌, ap, ◌∙◌}
+use Prim.Native.Nat.{ℕ, ◌≤◌}
+use mathlib.Core.Path.{ap, ◌∙◌}
 use native.Mathlib.Omega.{arith}
 use mathlib.Core.List.{List}
-use lib.ListN.{length, get_or, take, set, length-set}
+use lib.ListN.{length, get_or, set, length-set}
 use lib.Seq.{take_all}
-use Rattle.lists.specs.Lists.{splice}
 use Rattle.words.proofs.Laws.{copied_none, copied_more}
 use Rattle.words.proofs.copy.Goals as goal
 

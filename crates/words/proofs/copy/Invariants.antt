@@ -1,12 +1,8 @@
 -- The invariant: dst is as it was, with the first i bytes of src over its front.
-use Prim.Native.Nat.{ℕ, ◌≤◌, ◌-◌}
-use mathlib.Core.Path.{◌≡◌, ap, ◌∙◌}
-use native.Mathlib.Omega.{arith}
-use mathlib.Core.List.{List}
-use lib.ListN.{length, get_or, take, set, length-set}
-use lib.Seq.{take_all}
+use Prim.Native.Nat.{◌≤◌, ◌-◌}
+use mathlib.Core.Path.{◌≡◌}
+use lib.ListN.{length, take}
 use Rattle.lists.specs.Lists.{splice}
-use Rattle.words.proofs.Laws.{copied_none, copied_more}
 use Rattle.words.proofs.copy.Given as goal
 
 abbrev pub invariant-loop-i : goal.invariant-loop-i

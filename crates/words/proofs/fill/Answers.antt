@@ -1,7 +1,4 @@
-use Prim.Native.Nat.{◌-◌}
-use native.Mathlib.Omega.{arith}
-use lib.ListN.{length}
-use Rattle.words.proofs.Filling.{Filled, filled_none, filled_more, filled_all}
+use Rattle.words.proofs.Filling.{filled_none, filled_more, filled_all}
 use Rattle.words.proofs.fill.Goals as goal
 
 pub loop-i-init : goal.loop-i-init

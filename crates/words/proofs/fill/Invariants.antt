@@ -1,8 +1,7 @@
 -- The invariant: dst holds v below i, and from i on what it held before.
 use Prim.Native.Nat.{◌-◌}
-use native.Mathlib.Omega.{arith}
 use lib.ListN.{length}
-use Rattle.words.proofs.Filling.{Filled, filled_none, filled_more, filled_all}
+use Rattle.words.proofs.Filling.{Filled}
 use Rattle.words.proofs.fill.Given as goal
 
 abbrev pub invariant-loop-i : goal.invariant-loop-i

@@ -1,8 +1,7 @@
 -- The invariant is that of `fill`.
 use Prim.Native.Nat.{◌-◌}
-use native.Mathlib.Omega.{arith}
 use lib.ListN.{length}
-use Rattle.words.proofs.Filling.{Filled, filled_none, filled_more, filled_all}
+use Rattle.words.proofs.Filling.{Filled}
 use Rattle.words.proofs.fill32.Given as goal
 
 abbrev pub invariant-loop-i : goal.invariant-loop-i

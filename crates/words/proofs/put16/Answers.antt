@@ -2,7 +2,6 @@
 use native.Mathlib.Omega.{arith}
 use lib.ListN.{length-set}
 use Rattle.words.proofs.Laws.{put_two}
-use borrow.Author.Rules.{rules}
 use Rattle.words.proofs.put16.Goals as goal
 
 pub bounds-s-at-2 : goal.bounds-s-at-2

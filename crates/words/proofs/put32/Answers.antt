@@ -2,7 +2,6 @@
 use native.Mathlib.Omega.{arith}
 use lib.ListN.{length-set}
 use Rattle.words.proofs.Laws.{put_four}
-use borrow.Author.Rules.{rules}
 use Rattle.words.proofs.put32.Goals as goal
 
 pub bounds-s-at-2 : goal.bounds-s-at-2

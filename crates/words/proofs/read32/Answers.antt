@@ -1,6 +1,5 @@
 -- The number is read from its lowest byte on; each byte is below 256, so the sum has room.
 use Rattle.words.proofs.Laws.{read_first, read_more}
-use borrow.Author.Rules.{rules}
 use Rattle.words.proofs.read32.Goals as goal
 
 pub returns : goal.returns

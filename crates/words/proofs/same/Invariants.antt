@@ -1,10 +1,7 @@
 -- The invariant: the flag holds only while the elements below i agree, and falls only where the slices differ. Slices of two lengths differ at once.
 use Prim.Native.Nat.{◌≤◌, ◌-◌}
-use mathlib.Core.Path.{◌≡◌}
-use mathlib.Core.Logic.{⊎_elim}
-use native.Mathlib.Omega.{arith}
 use lib.ListN.{length}
-use Rattle.words.proofs.Laws.{Compared, compared_none, compared_same, compared_not, compared_all, compared_lengths}
+use Rattle.words.proofs.Laws.{Compared}
 use Rattle.words.proofs.same.Given as goal
 
 abbrev pub invariant-loop-i : goal.invariant-loop-i

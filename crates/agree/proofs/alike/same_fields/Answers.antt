@@ -1,6 +1,5 @@
 -- The conjunction of the code is that of the definition, test by test.
 use Rattle.agree.proofs.Comparing.{fields_same}
-use borrow.Author.Rules.{rules}
 use Rattle.agree.proofs.alike.same_fields.Goals as goal
 
 pub returns : goal.returns

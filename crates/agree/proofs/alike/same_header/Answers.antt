@@ -1,9 +1,7 @@
 -- The fields are compared, then the lists.
 use mathlib.Core.Path.{sym, ◌∙◌}
-use borrow.Author.Tests.{not-true, not-false}
 use Rattle.lists.proofs.Cases.{both_false_left, both_of_true}
 use Rattle.agree.specs.Agree.{same_header}
-use borrow.Author.Rules.{rules}
 use Rattle.agree.proofs.alike.same_header.Goals as goal
 
 pub returns-then-not-same_fields : goal.returns-then-not-same_fields

@@ -1,10 +1,7 @@
-use Prim.Native.Nat.{◌≤◌, ◌-◌}
 use mathlib.Core.Path.{◌≡◌}
-use mathlib.Core.Logic.{⊎_elim}
 use native.Mathlib.Omega.{arith}
 use lib.ListN.{length}
-use Rattle.words.proofs.Laws.{Compared, compared_none, compared_same, compared_not, compared_all, compared_lengths}
-use borrow.Author.Rules.{rules}
+use Rattle.words.proofs.Laws.{compared_none, compared_same, compared_not, compared_all, compared_lengths}
 use Rattle.agree.proofs.alike.same_numbers.Goals as goal
 use Rattle.agree.proofs.alike.same_numbers.Goals.{then-a-i, else-a-i}
 

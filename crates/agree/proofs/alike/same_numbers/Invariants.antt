@@ -1,11 +1,7 @@
 -- The invariant: the flag holds only while the elements below i agree, and falls only where the lists differ. Lists of two lengths differ at once.
 use Prim.Native.Nat.{◌≤◌, ◌-◌}
-use mathlib.Core.Path.{◌≡◌}
-use mathlib.Core.Logic.{⊎_elim}
-use native.Mathlib.Omega.{arith}
 use lib.ListN.{length}
-use Rattle.words.proofs.Laws.{Compared, compared_none, compared_same, compared_not, compared_all, compared_lengths}
-use borrow.Author.Rules.{rules}
+use Rattle.words.proofs.Laws.{Compared}
 use Rattle.agree.proofs.alike.same_numbers.Given as goal
 
 abbrev pub invariant-loop-i : goal.invariant-loop-i

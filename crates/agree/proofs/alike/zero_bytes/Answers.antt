@@ -1,10 +1,8 @@
-use Prim.Native.Nat.{◌≤◌, ◌-◌}
 use mathlib.Core.Path.{◌≡◌, refl}
 use native.Mathlib.Omega.{arith}
-use lib.ListN.{length, get_or}
+use lib.ListN.{length}
 use Rattle.lists.specs.Lists.{every}
 use Rattle.points.proofs.Testing.{flag_more}
-use lib.Dec.{eqb}
 use Rattle.agree.specs.Parts.{all_zero}
 use Rattle.agree.proofs.alike.zero_bytes.Goals as goal
 

@@ -1,12 +1,9 @@
 -- The invariant: the flag says whether the numbers below i are zero.
 use Prim.Native.Nat.{◌≤◌, ◌-◌}
-use mathlib.Core.Path.{◌≡◌, refl}
-use native.Mathlib.Omega.{arith}
+use mathlib.Core.Path.{◌≡◌}
 use lib.ListN.{length, get_or}
 use Rattle.lists.specs.Lists.{every}
-use Rattle.points.proofs.Testing.{flag_more}
 use lib.Dec.{eqb}
-use Rattle.agree.specs.Parts.{all_zero}
 use Rattle.agree.proofs.alike.zero_bytes.Given as goal
 
 abbrev pub invariant-loop-i : goal.invariant-loop-i

@@ -1,7 +1,6 @@
 -- Past the end nothing is left; else the rest is lent and looked through.
 use mathlib.Core.Path.{◌∙◌}
 use Rattle.agree.proofs.Comparing.{zeros_none, zeros_rest}
-use borrow.Author.Rules.{rules}
 use Rattle.agree.proofs.alike.zero_bytes_from.Goals as goal
 
 pub returns-then-xs-from : goal.returns-then-xs-from

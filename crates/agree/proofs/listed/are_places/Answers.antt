@@ -1,9 +1,7 @@
 -- The places are listed into the room, and the room compared.
 use lib.ListN.{length}
-use borrow.Author.Tests.{not-true, not-false}
 use Rattle.fat.specs.Loaded.{PlacesListed}
 use Rattle.agree.proofs.Listing.{places_as_long, places_unlisted, places_compared, places_room}
-use borrow.Author.Rules.{rules}
 use Rattle.agree.proofs.listed.are_places.Goals as goal
 use Rattle.agree.proofs.listed.are_places.Goals.{After-list_fats}
 

@@ -1,9 +1,7 @@
 -- The chain is listed into the room, and the room compared.
 use lib.ListN.{length}
-use borrow.Author.Tests.{not-true, not-false}
 use Rattle.fat.specs.Loaded.{ChainListed}
 use Rattle.agree.proofs.Listing.{chain_as_long, chain_unlisted, chain_compared}
-use borrow.Author.Rules.{rules}
 use Rattle.agree.proofs.listed.is_chain.Goals as goal
 use Rattle.agree.proofs.listed.is_chain.Goals.{After-list_difats}
 

@@ -1,10 +1,8 @@
 -- The list is compared, FREE must follow, and then it is looked through for repeats: together the definition's test.
 use mathlib.Core.Path.{sym, ◌∙◌}
-use borrow.Author.Tests.{not-true, not-false}
 use lib.Seq.{length-take-le}
 use Rattle.fat.proofs.Listing.{below_more}
 use Rattle.agree.proofs.Listing.{relent, fats_wrong, fats_followed, fats_low, fats_told}
-use borrow.Author.Rules.{rules}
 use Rattle.agree.proofs.listed.same_fats.Goals as goal
 
 pub slice_bounds-are_places-end-2 : goal.slice_bounds-are_places-end-2
@@ -24,7 +22,7 @@ returns-then-not-rest_free c = fats_followed _ _ _ _ _ _ _ (sym c.rest_free.ensu
 
 pub different-requires : goal.different-requires
 different-requires c =
-    record {list_value = below_more _ _ _ (relent c.are_places.new.room c.args.scratch.now _ _ c.are_places.auto.room c.requires.within c.requires.below) (fats_low _ _ _ _ _ _ _ _ c.are_places.ensures (c.if-not-are_places.false)); list_len_bound = c.requires.few }
+    record { list_value = below_more _ _ _ (relent c.are_places.new.room c.args.scratch.now _ _ c.are_places.auto.room c.requires.within c.requires.below) (fats_low _ _ _ _ _ _ _ _ c.are_places.ensures (c.if-not-are_places.false)); list_len_bound = c.requires.few }
 
 pub returns : goal.returns
 returns c =

@@ -1,6 +1,5 @@
 -- The counts, the DIFAT's list and the FAT's are tested in turn. The DIFAT's list is the chain, so the places are read from it.
 use mathlib.Core.Path.{◌≡◌, sym, ◌∙◌}
-use borrow.Author.Tests.{not-true, not-false}
 use lib.ListN.{length}
 use Rattle.agree.proofs.Listing.{lists_chained, lists_counts, lists_chain, lists_places, lists_told}
 use borrow.Author.Rules.{rules}

@@ -3,13 +3,11 @@ use Prim.Native.Nat.{◌≤◌}
 use mathlib.Core.Path.{◌≡◌, refl, sym, ◌∙◌}
 use mathlib.Core.Bool.{true}
 use native.Mathlib.Omega.{arith}
-use borrow.Author.Tests.{not-true, not-false}
 use lib.ListN.{length}
 use lib.Seq.{length-take-le}
 use Rattle.agree.specs.Parts.{lists_same}
 use Rattle.agree.proofs.Listing.{relent}
 use Rattle.agree.proofs.Accepting.{tables_lists, tables_tail, tables_fat, tables_told, tables_cover, tables_fat_lent}
-use borrow.Author.Rules.{rules}
 use Rattle.agree.proofs.tables.same_tables.Goals as goal
 use Rattle.agree.proofs.tables.same_tables.Goals.{After-same_lists, Else-not-same_lists}
 

@@ -2,13 +2,11 @@
 use Prim.Native.Nat.{ℕ}
 use mathlib.Core.Path.{◌≡◌, sym, ◌∙◌, ap}
 use mathlib.Core.Bool.{true}
-use borrow.Author.Tests.{not-true, not-false}
 use Rattle.lists.specs.Rows.{refusal}
 use Rattle.alloc.specs.Opening.{Tables, first_rows, shortest}
 use Rattle.alloc.proofs.First.{early_len, early_sectors, early_own}
 use Rattle.agree.specs.Agree.{same_header}
 use Rattle.agree.proofs.Agreeing.{agree_early, agree_header, agree_count, agree_free, agree_told, agree_lent}
-use borrow.Author.Rules.{rules}
 use Rattle.agree.proofs.whole.agrees.Goals as goal
 use Rattle.agree.proofs.whole.agrees.Goals.{After-judge_early-early, Else-no-ne0, Else-not-same_header, Start}
 

@@ -2,7 +2,6 @@
 use Prim.Native.Nat.{ℕ, ◌-◌, ◌≤◌}
 use mathlib.Core.Path.{◌≡◌, sym, ◌∙◌, ap}
 use native.Mathlib.Omega.{arith}
-use borrow.Author.Tests.{not-true, not-false}
 use lib.ListN.{length}
 use lib.Seq.{length-take-le}
 use Rattle.sectors.specs.Sectors.{per_sector}
@@ -11,7 +10,6 @@ use Rattle.fat.specs.Loaded.{Counted}
 use Rattle.fat.proofs.Listing.{ceil_few, fats_few, difats_few}
 use Rattle.alloc.specs.Opening.{Tables}
 use Rattle.agree.proofs.Lent.{whole_tails, whole_tables, whole_told, lent_counted, fronts_lent}
-use borrow.Author.Rules.{rules}
 use Rattle.agree.proofs.whole.same_whole.Goals as goal
 use Rattle.agree.proofs.whole.same_whole.Goals.{After-ceil-d, Start}
 

@@ -1,6 +1,5 @@
 -- Five rests, each looked through.
 use Rattle.agree.proofs.Comparing.{tails_all}
-use borrow.Author.Rules.{rules}
 use Rattle.agree.proofs.whole.tails_zero.Goals as goal
 
 pub returns : goal.returns

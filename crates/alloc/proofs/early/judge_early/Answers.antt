@@ -9,7 +9,6 @@ use Rattle.header.specs.Read.{read_no, header_of}
 use Rattle.header.specs.declared.Header.{Header}
 use Rattle.fat.specs.Lists.{sectors_in, room_of}
 use Rattle.alloc.proofs.First.{early_below, early_above, early_header, early_odd, early_many, early_short, early_passed, early_no, read_header, length_some, one_whole}
-use borrow.Author.Rules.{rules}
 use Rattle.alloc.proofs.early.judge_early.Goals as goal
 use Rattle.alloc.proofs.early.judge_early.Goals.{After-room, After-sector_len-s, Else-no-ne0, Else-used-s-ne0}
 

@@ -1,7 +1,6 @@
 -- Two cases of a quotient, by arithmetic.
 use native.Mathlib.Omega.{arith}
 use Rattle.fat.specs.Lists.{room_of, sectors_in}
-use borrow.Author.Rules.{rules}
 use Rattle.alloc.proofs.early.room.Goals as goal
 
 pub returns-then-whole-eq0 : goal.returns-then-whole-eq0

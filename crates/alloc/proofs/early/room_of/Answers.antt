@@ -2,7 +2,6 @@
 use Prim.Native.Nat.{ℕ}
 use mathlib.Core.Path.{◌∙◌, ap}
 use native.Mathlib.Omega.{arith}
-use borrow.Author.Rules.{rules}
 use Rattle.fat.specs.Lists.{room_of}
 use Rattle.alloc.proofs.First.{length_some}
 use Rattle.alloc.proofs.early.room_of.Goals as goal

@@ -9,7 +9,6 @@ use Rattle.fat.specs.Lists.{fat_count, difat_count, ceil}
 use Rattle.fat.specs.Loaded.{Counted}
 use Rattle.fat.proofs.Listing.{ceil_few, fats_few, difats_few}
 use Rattle.alloc.proofs.Filled.{zero_front, zeroed_counted, counted_same, filled}
-use borrow.Author.Rules.{rules}
 use Rattle.alloc.proofs.open.fill_tables.Goals as goal
 use Rattle.alloc.proofs.open.fill_tables.Goals.{After-ceil-d}
 

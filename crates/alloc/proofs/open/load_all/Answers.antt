@@ -1,7 +1,6 @@
 -- The tables are made zero and loaded; where that is refused they are made zero again, and only the number counts.
 use mathlib.Core.Path.{◌∙◌}
 use Rattle.alloc.proofs.Filled.{zeros_as, lent_zeroed, filled_loaded, refused_loaded}
-use borrow.Author.Rules.{rules}
 use Rattle.alloc.proofs.open.load_all.Goals as goal
 
 pub load_zeroed-filled-requires : goal.load_zeroed-filled-requires

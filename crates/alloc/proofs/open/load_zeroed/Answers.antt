@@ -4,7 +4,6 @@ use native.Mathlib.Omega.{arith}
 use lib.ListN.{length, take}
 use lib.Seq.{length-take-le}
 use Rattle.alloc.proofs.Filled.{listed_filled, tables_refused}
-use borrow.Author.Rules.{rules}
 use Rattle.alloc.proofs.open.load_zeroed.Goals as goal
 use Rattle.alloc.proofs.open.load_zeroed.Goals.{After-list_free-arg-1}
 
@@ -21,7 +20,7 @@ slice_bounds-list_free-end-2 c =
 
 pub list_free-free-requires : goal.list_free-free-requires
 list_free-free-requires c =
-    record {fat_in_bounds = omega (arith, front c, c.fill32.auto.dst, c.fill_tables-no.auto.scratch, c.requires.scratch_long); fat_len_bound = omega (arith, front c, c.requires.few) }
+    record { fat_in_bounds = omega (arith, front c, c.fill32.auto.dst, c.fill_tables-no.auto.scratch, c.requires.scratch_long); fat_len_bound = omega (arith, front c, c.requires.few) }
 
 pub returns : goal.returns
 returns c =

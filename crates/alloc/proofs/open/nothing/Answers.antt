@@ -1,5 +1,4 @@
 -- The empty header is the definition's, by what `none` ensures.
-use borrow.Author.Rules.{rules}
 use Rattle.alloc.proofs.open.nothing.Goals as goal
 
 pub returns : goal.returns

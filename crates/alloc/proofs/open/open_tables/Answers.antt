@@ -6,7 +6,6 @@ use Rattle.lists.specs.Rows.{refusal}
 use Rattle.alloc.specs.Opening.{Tables, first_rows, shortest}
 use Rattle.alloc.proofs.First.{early_len, early_sectors, early_own}
 use Rattle.alloc.proofs.Opens.{opens_early, opens_lent, opens_refused, opens, loaded_own, lent_own, found_own}
-use borrow.Author.Rules.{rules}
 use Rattle.alloc.proofs.open.open_tables.Goals as goal
 use Rattle.alloc.proofs.open.open_tables.Goals.{After-judge_early-early, After-load_all-arg-5-1}
 

@@ -2,7 +2,6 @@
 use mathlib.Core.Path.{◌∙◌, ap}
 use Prim.Native.Nat.{min}
 use Rattle.alloc.specs.Opening.{shortest}
-use borrow.Author.Rules.{rules}
 use Rattle.alloc.proofs.open.shortest.Goals as goal
 
 pub returns : goal.returns

@@ -4,11 +4,9 @@ use Prim.Native.Nat.{ℕ}
 use mathlib.Core.Bool.{true}
 use native.Mathlib.Omega.{arith}
 use Rattle.fat.specs.Loaded.{Covers}
-use borrow.Author.Tests.{not-true, not-false}
 use lib.ListN.{length, replicate}
 use Rattle.fat.proofs.Differing.{below_kept}
 use Rattle.alloc.proofs.Opening.{lists_fats, lists_difats, lists_cover, tables_12, tables_13, tables_judged}
-use borrow.Author.Rules.{rules}
 use Rattle.alloc.proofs.tables.load_tables.Goals as goal
 use Rattle.alloc.proofs.tables.load_tables.Goals.{Else-not-load_lists}
 

@@ -10,7 +10,6 @@ use Rattle.cfb.specs.Calls.{state_len, chain_ids}
 use Rattle.cfb.specs.Changes.{edit_no, chain_from, Listing, Judged}
 use Rattle.cfb.specs.declared.State.{State}
 use Rattle.cfb.proofs.Changing.{changes_refused, changes_made, judged_zero, judged_chain, edit_ready, edit_own, edited_own, made_lies}
-use borrow.Author.Rules.{rules}
 use Rattle.cfb.proofs.State.change.Goals as goal
 use Rattle.cfb.proofs.State.change.Goals.{After-change_of-listed, After-edit_listed-walked, After-len_of-s}
 
@@ -37,14 +36,14 @@ judged c =
     let state : State = c.args.self in
     let tables : Tables = record { fat = c.args.fat.now; fats = c.args.fats.now; difats = c.args.difats.now; frees = c.args.frees.now; marks = c.args.marks.now } in
     let listing : Listing state (length c.args.image.now) c.change_of-listed.result c.change_of-listed.new.ids = record {
-  image = c.args.image.now;
-  tables = tables;
-  before = c.args.ids.now;
-  start = c.args.start;
-  long = refl;
-  kept = c.change_of-listed.auto.ids;
-  listed = c.change_of-listed.ensures;
-} in
+      image = c.args.image.now;
+      tables = tables;
+      before = c.args.ids.now;
+      start = c.args.start;
+      long = refl;
+      kept = c.change_of-listed.auto.ids;
+      listed = c.change_of-listed.ensures;
+    } in
     c.edit_listed-walked.ensures listing
 
 -- the count is that of the listing, and the change can be made
@@ -57,14 +56,14 @@ ready c =
     let state : State = c.args.self in
     let tables : Tables = record { fat = c.args.fat.now; fats = c.args.fats.now; difats = c.args.difats.now; frees = c.args.frees.now; marks = c.args.marks.now } in
     let listing : Listing state (length c.args.image.now) c.change_of-listed.result c.change_of-listed.new.ids = record {
-  image = c.args.image.now;
-  tables = tables;
-  before = c.args.ids.now;
-  start = c.args.start;
-  long = refl;
-  kept = c.change_of-listed.auto.ids;
-  listed = c.change_of-listed.ensures;
-} in
+      image = c.args.image.now;
+      tables = tables;
+      before = c.args.ids.now;
+      start = c.args.start;
+      long = refl;
+      kept = c.change_of-listed.auto.ids;
+      listed = c.change_of-listed.ensures;
+    } in
     let judged : Judged (edit_no state c.args.image.now tables (length c.args.ids.now) c.args.start c.args.edit (length c.args.buf.now)) c.args.ids.now
     (chain_ids state tables c.args.start) c.edit_listed-walked.result c.edit_listed-walked.new.ids = c.edit_listed-walked.ensures listing in
     edit_ready state _ tables _ _ _ _ (judged_zero _ _ _ _ _ judged _ (walked-is c))

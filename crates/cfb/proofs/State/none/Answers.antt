@@ -1,5 +1,4 @@
 -- The literal is the definition.
-use borrow.Author.Rules.{rules}
 use Rattle.cfb.specs.Face.{no_state}
 use Rattle.cfb.proofs.State.none.Goals as goal
 

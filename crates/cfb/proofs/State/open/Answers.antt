@@ -1,6 +1,5 @@
 -- What the tables' opening found is handed on: a refusal as its number, an acceptance with its counts.
 use mathlib.Core.Path.{refl}
-use borrow.Author.Rules.{rules}
 use Rattle.cfb.proofs.Facing.{face_refused, face_accepted}
 use Rattle.cfb.proofs.State.open.Goals as goal
 

@@ -1,7 +1,6 @@
 -- What was listed is handed on, and nothing else was lent to be written.
 use mathlib.Core.Path.{refl}
 use Rattle.cfb.proofs.Answering.{opens_listed}
-use borrow.Author.Rules.{rules}
 use Rattle.cfb.proofs.State.open_chain.Goals as goal
 
 pub returns : goal.returns

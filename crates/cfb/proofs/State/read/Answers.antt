@@ -8,7 +8,6 @@ use Rattle.walk.specs.declared.Walked.TheVariants.{Listed}
 use Rattle.cfb.specs.declared.State.{State}
 use Rattle.cfb.proofs.Answering.{reads_refused, reads_past, reads_done}
 use Rattle.cfb.proofs.Lying.{read_own, past_own, within_own, listed_count, listed_within, listed_bytes, listed_readable}
-use borrow.Author.Rules.{rules}
 use Rattle.cfb.proofs.State.read.Goals as goal
 use Rattle.cfb.proofs.State.read.Goals.{After-chain_of-walked, After-len_of-s}
 

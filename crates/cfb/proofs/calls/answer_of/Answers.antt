@@ -1,6 +1,5 @@
 -- Each answer of the walk is handed on as its case.
 use Rattle.cfb.proofs.Answering.{answer_listed, answer_refused}
-use borrow.Author.Rules.{rules}
 use Rattle.cfb.proofs.calls.answer_of.Goals as goal
 
 pub returns-in-Listed : goal.returns-in-Listed

@@ -2,18 +2,15 @@
 use Prim.Native.Nat.{ℕ, min}
 use mathlib.Core.Path.{◌≡◌, sym, ◌∙◌, ap}
 use mathlib.Core.Bool.{true, false}
-use borrow.Author.Tests.{not-true, not-false}
 use lib.Dec.{ltb}
 use lib.ListN.{length, replicate}
 use Rattle.fat.specs.Lists.{room_of}
 use Rattle.alloc.specs.Opening.{Tables, shortest}
-use Rattle.agree.specs.Agree.{agreement}
 use Rattle.agree.proofs.Meaning.{agrees_exactly}
 use Rattle.cfb.specs.Calls.{state_len}
 use Rattle.cfb.specs.declared.State.{State}
 use Rattle.cfb.proofs.Agreed.{Chained, agreed_chained}
 use Rattle.cfb.proofs.Calling.{room_short, room_long, room_enough, listed_short, listed_apart, listed_walked}
-use borrow.Author.Rules.{rules}
 use Rattle.cfb.proofs.calls.chain_of.Goals as goal
 use Rattle.cfb.proofs.calls.chain_of.Goals.{After-agrees, After-room_of}
 

@@ -1,5 +1,4 @@
 -- Each case of the walk's answer is zeroed from its own place on.
-use borrow.Author.Rules.{rules}
 use Rattle.cfb.proofs.Clearing.{cleared_listed, cleared_refused}
 use Rattle.cfb.proofs.calls.clear_past.Goals as goal
 

@@ -1,6 +1,5 @@
 -- Each kind of edit tells of its own bytes.
 use Rattle.cfb.proofs.Ending.{bytes_write, bytes_resize}
-use borrow.Author.Rules.{rules}
 use Rattle.cfb.proofs.changes.bytes_of.Goals as goal
 
 pub returns-in-Write : goal.returns-in-Write

@@ -4,14 +4,12 @@ use mathlib.Core.Path.{◌≡◌, sym, ◌∙◌, ap}
 use mathlib.Core.Bool.{Bool}
 use mathlib.Core.Logic.{inl, inr, ◌≢◌}
 use native.Mathlib.Omega.{arith}
-use borrow.Author.Tests.{not-true, not-false}
 use lib.ListN.{length, replicate}
 use Rattle.lists.specs.Lists.{choose}
 use Rattle.alloc.specs.Opening.{Tables}
 use Rattle.cfb.specs.Calls.{chain_no}
 use Rattle.cfb.specs.Changes.{change_no}
 use Rattle.cfb.proofs.Refusing.{refused_early, refused_mode, refused_walk, refused_start, start_marked, listed_number, change_same, change_refused}
-use borrow.Author.Rules.{rules}
 use Rattle.cfb.proofs.changes.change_of.Goals as goal
 use Rattle.cfb.proofs.changes.change_of.Goals.{After-chain_of-walked, After-is_marked, After-is_strict, After-number_of-no}
 

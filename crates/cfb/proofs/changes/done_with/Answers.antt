@@ -5,7 +5,6 @@ use Rattle.sectors.proofs.Laws.{scaled}
 use Rattle.cfb.specs.Calls.{state_len}
 use Rattle.cfb.proofs.Ending.{used_own, done_as}
 use Rattle.cfb.proofs.Fitted.{length_least}
-use borrow.Author.Rules.{rules}
 use Rattle.cfb.proofs.changes.done_with.Goals as goal
 
 pub overflow_add-s : goal.overflow_add-s

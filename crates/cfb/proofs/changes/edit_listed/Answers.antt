@@ -7,7 +7,6 @@ use Rattle.cfb.specs.Changes.{no_room}
 use Rattle.cfb.proofs.Fitted.{length_least, length_most}
 use Rattle.cfb.proofs.Judging.{seeks_past, seeks_within, edit_early, edit_past, edit_full, edit_listed}
 use Rattle.cfb.proofs.Ready.{listing_room, listing_small}
-use borrow.Author.Rules.{rules}
 use Rattle.cfb.proofs.changes.edit_listed.Goals as goal
 use Rattle.cfb.proofs.changes.edit_listed.Goals.{After-len_of-len, After-no_room}
 

@@ -1,6 +1,5 @@
 -- A chain of none starts at END.
 use Rattle.cfb.proofs.Ending.{start_none, start_some}
-use borrow.Author.Rules.{rules}
 use Rattle.cfb.proofs.changes.first_of.Goals as goal
 
 pub returns-then-count-eq0 : goal.returns-then-count-eq0

@@ -7,7 +7,6 @@ use Rattle.fat.specs.Lists.{room_of}
 use Rattle.cfb.specs.Calls.{state_len}
 use Rattle.cfb.proofs.Ending.{room_free, room_asked}
 use Rattle.cfb.proofs.Fitted.{length_least, length_most, room_most}
-use borrow.Author.Rules.{rules}
 use Rattle.cfb.proofs.changes.no_room.Goals as goal
 use Rattle.cfb.proofs.changes.no_room.Goals.{After-room_of-room}
 

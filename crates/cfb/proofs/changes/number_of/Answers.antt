@@ -1,6 +1,5 @@
 -- Each answer of the walk has its number.
 use Rattle.cfb.proofs.Refusing.{number_listed, number_refused}
-use borrow.Author.Rules.{rules}
 use Rattle.cfb.proofs.changes.number_of.Goals as goal
 
 pub returns-in-Listed : goal.returns-in-Listed

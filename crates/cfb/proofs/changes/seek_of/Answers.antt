@@ -1,6 +1,5 @@
 -- A write begins at its offset, a resize at the chain's start.
 use Rattle.cfb.proofs.Judging.{seek_write, seek_resize}
-use borrow.Author.Rules.{rules}
 use Rattle.cfb.proofs.changes.seek_of.Goals as goal
 
 pub returns-in-Write : goal.returns-in-Write

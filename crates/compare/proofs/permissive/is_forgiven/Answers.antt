@@ -1,13 +1,10 @@
-use Prim.Native.Nat.{◌≤◌, ◌-◌}
 use mathlib.Core.Path.{◌≡◌, refl, ◌∙◌, ap}
 use native.Mathlib.Omega.{arith}
 use lib.Dec.{eqb}
-use lib.ListN.{length, get_or}
+use lib.ListN.{length}
 use Rattle.lists.specs.Lists.{every}
-use Rattle.judge.specs.Judge.{forgiven}
 use Rattle.points.proofs.Testing.{flag_more}
 use Rattle.compare.proofs.Keeping.{forgiven_tells}
-use borrow.Author.Rules.{rules}
 use Rattle.compare.proofs.permissive.is_forgiven.Goals as goal
 
 pub loop-i-init : goal.loop-i-init

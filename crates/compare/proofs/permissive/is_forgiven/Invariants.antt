@@ -1,14 +1,10 @@
 -- The invariant: the flag says whether the entries below i are the others', forgiven.
 use Prim.Native.Nat.{◌≤◌, ◌-◌}
-use mathlib.Core.Path.{◌≡◌, refl, ◌∙◌, ap}
-use native.Mathlib.Omega.{arith}
+use mathlib.Core.Path.{◌≡◌}
 use lib.Dec.{eqb}
 use lib.ListN.{length, get_or}
 use Rattle.lists.specs.Lists.{every}
 use Rattle.judge.specs.Judge.{forgiven}
-use Rattle.points.proofs.Testing.{flag_more}
-use Rattle.compare.proofs.Keeping.{forgiven_tells}
-use borrow.Author.Rules.{rules}
 use Rattle.compare.proofs.permissive.is_forgiven.Given as goal
 
 abbrev pub invariant-loop-i : goal.invariant-loop-i

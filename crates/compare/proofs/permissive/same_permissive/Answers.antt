@@ -4,7 +4,6 @@ use lib.ListN.{length}
 use Rattle.fat.specs.Lists.{fat_of}
 use Rattle.fat.proofs.Differing.{below_kept}
 use Rattle.compare.proofs.Keeping.{permissive_told}
-use borrow.Author.Rules.{rules}
 use Rattle.compare.proofs.permissive.same_permissive.Goals as goal
 use Rattle.compare.proofs.permissive.same_permissive.Goals.{After-load_fat}
 
@@ -17,7 +16,7 @@ raw-is c = c.load_fat.ensures ∙ ap (fat_of c.args.s c.args.image.now c.args.fa
 pub set_listed-requires : goal.set_listed-requires
 set_listed-requires c =
     let passed = goal.at.set_listed-requires c in
-    record {difats_value = below_kept _ _ _ (long passed.After-load_fat) c.requires.difats_value; fats_value = below_kept _ _ _ (long passed.After-load_fat) c.requires.covers.below }
+    record { difats_value = below_kept _ _ _ (long passed.After-load_fat) c.requires.difats_value; fats_value = below_kept _ _ _ (long passed.After-load_fat) c.requires.covers.below }
 
 pub returns : goal.returns
 returns c =

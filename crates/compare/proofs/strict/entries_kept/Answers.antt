@@ -1,12 +1,10 @@
-use Prim.Native.Nat.{ℕ, ◌≤◌, ◌-◌}
+use Prim.Native.Nat.{ℕ}
 use mathlib.Core.Path.{◌≡◌, refl, ◌∙◌, ap}
 use native.Mathlib.Omega.{arith}
 use lib.ListN.{length, get_or}
 use Rattle.lists.specs.Lists.{every}
-use Rattle.sectors.specs.Sectors.{entry_in}
 use Rattle.points.proofs.Testing.{flag_more}
 use Rattle.compare.specs.Compare.{entry_kept}
-use borrow.Author.Rules.{rules}
 use Rattle.compare.proofs.strict.entries_kept.Goals as goal
 
 pub loop-j-init : goal.loop-j-init

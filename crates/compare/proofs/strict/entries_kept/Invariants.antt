@@ -1,13 +1,10 @@
 -- The invariant: the flag says whether the entries below j are kept.
-use Prim.Native.Nat.{ℕ, ◌≤◌, ◌-◌}
-use mathlib.Core.Path.{◌≡◌, refl, ◌∙◌, ap}
-use native.Mathlib.Omega.{arith}
+use Prim.Native.Nat.{◌≤◌, ◌-◌}
+use mathlib.Core.Path.{◌≡◌}
 use lib.ListN.{length, get_or}
 use Rattle.lists.specs.Lists.{every}
 use Rattle.sectors.specs.Sectors.{entry_in}
-use Rattle.points.proofs.Testing.{flag_more}
 use Rattle.compare.specs.Compare.{entry_kept}
-use borrow.Author.Rules.{rules}
 use Rattle.compare.proofs.strict.entries_kept.Given as goal
 
 abbrev pub invariant-loop-j : goal.invariant-loop-j

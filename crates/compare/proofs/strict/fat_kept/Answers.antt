@@ -1,14 +1,13 @@
-use Prim.Native.Nat.{◌-◌, ◌*◌, ◌≤◌, ◌<◌}
+use Prim.Native.Nat.{◌*◌, ◌<◌}
 use mathlib.Core.Path.{◌≡◌, refl}
 use native.Mathlib.Omega.{arith}
-use borrow.Author.Rules.{rules}
-use lib.ListN.{length, get_or, length-take}
-use Rattle.sectors.specs.Sectors.{per_sector, entry_of}
+use lib.ListN.{length, length-take}
+use Rattle.sectors.specs.Sectors.{per_sector}
 use Rattle.sectors.proofs.Laws.{sector_within}
 use Rattle.fat.proofs.Differing.{below_given}
 use Rattle.fat.proofs.Loading.{sector_begins}
 use Rattle.compare.specs.Compare.{entry_kept}
-use Rattle.compare.proofs.Running.{Tested, tested_none, tested_more, tested_all, sector_run}
+use Rattle.compare.proofs.Running.{tested_none, tested_more, tested_all, sector_run}
 use Rattle.compare.proofs.strict.fat_kept.Goals as goal
 use Rattle.compare.proofs.strict.fat_kept.Goals.{In-loop-p}
 
@@ -45,7 +44,7 @@ slice_bounds-sector_kept-end c = omega (arith, c.lesser-b.ensures)
 
 pub sector_kept-kept-requires : goal.sector_kept-kept-requires
 sector_kept-kept-requires c =
-    record {s_in_bounds = sector_within _ _ _ _ c.requires.holds (below_given _ _ _ _ _ c.requires.below c.loop-p-test.true c.index-id.ensures refl); le_s = (omega (arith, c.requires.holds.two), simp length-take (omega (arith, c.requires.holds.entries, c.lesser-b.ensures))) }
+    record { s_in_bounds = sector_within _ _ _ _ c.requires.holds (below_given _ _ _ _ _ c.requires.below c.loop-p-test.true c.index-id.ensures refl); le_s = (omega (arith, c.requires.holds.two), simp length-take (omega (arith, c.requires.holds.entries, c.lesser-b.ensures))) }
 
 pub loop-p-preserved : goal.loop-p-preserved
 loop-p-preserved c =

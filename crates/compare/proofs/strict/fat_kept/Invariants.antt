@@ -1,15 +1,10 @@
 -- The invariant: the flag says whether the entries of the first p sectors are kept; a turn compares the next sector with its part of the table.
-use Prim.Native.Nat.{◌-◌, ◌*◌, ◌≤◌, ◌<◌}
-use mathlib.Core.Path.{◌≡◌, refl}
-use native.Mathlib.Omega.{arith}
-use borrow.Author.Rules.{rules}
-use lib.ListN.{length, get_or, length-take}
+use Prim.Native.Nat.{◌-◌, ◌≤◌}
+use mathlib.Core.Path.{◌≡◌}
+use lib.ListN.{length, get_or}
 use Rattle.sectors.specs.Sectors.{per_sector, entry_of}
-use Rattle.sectors.proofs.Laws.{sector_within}
-use Rattle.fat.proofs.Differing.{below_given}
-use Rattle.fat.proofs.Loading.{sector_begins}
 use Rattle.compare.specs.Compare.{entry_kept}
-use Rattle.compare.proofs.Running.{Tested, tested_none, tested_more, tested_all, sector_run}
+use Rattle.compare.proofs.Running.{Tested}
 use Rattle.compare.proofs.strict.fat_kept.Given as goal
 
 abbrev pub invariant-loop-p : goal.invariant-loop-p

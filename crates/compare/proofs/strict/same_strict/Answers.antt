@@ -1,7 +1,5 @@
 -- A FAT that is not the image's own, or that forgiving would change, fails; of one that is, the listed sectors decide.
-use borrow.Author.Tests.{not-true, not-false}
 use Rattle.compare.proofs.Keeping.{strict_differs, strict_told}
-use borrow.Author.Rules.{rules}
 use Rattle.compare.proofs.strict.same_strict.Goals as goal
 
 pub returns-then-not-fat_kept : goal.returns-then-not-fat_kept

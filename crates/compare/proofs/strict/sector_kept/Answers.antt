@@ -8,7 +8,6 @@ use Rattle.lists.specs.Lists.{every}
 use Rattle.sectors.specs.Sectors.{entry_in}
 use Rattle.sectors.proofs.Laws.{scaled, lent_sector}
 use Rattle.compare.specs.Compare.{entry_kept}
-use borrow.Author.Rules.{rules}
 use Rattle.compare.proofs.strict.sector_kept.Goals as goal
 
 pub overflow_add-a : goal.overflow_add-a

@@ -1,7 +1,5 @@
 -- Where a DIFAT sector has the place nothing changes; else as many as there are places hold exactly those before it.
 use Rattle.disk.proofs.Growing.{hold_not, hold_one, hold_done}
-use borrow.Author.Rules.{rules}
-use borrow.Author.Tests.{not-true, not-false}
 use Rattle.disk.proofs.disk.hold_place.Goals as goal
 
 pub returns-then-not-needs_difat : goal.returns-then-not-needs_difat

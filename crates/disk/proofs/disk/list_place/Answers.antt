@@ -3,7 +3,6 @@ use native.Mathlib.Omega.{arith}
 use Rattle.disk.proofs.Fitting.{place_in_sector}
 use Rattle.disk.proofs.Growing.{place_listed, place_held, place_near, place_far}
 use Rattle.disk.proofs.Storing.{sector_small}
-use borrow.Author.Rules.{rules}
 use Rattle.disk.proofs.disk.list_place.Goals as goal
 
 pub returns-then-p-lt109 : goal.returns-then-p-lt109
@@ -21,7 +20,7 @@ overflow_cast-sector c =
 
 pub put_at-requires : goal.put_at-requires
 put_at-requires c =
-    record {s_in_bounds = place_held _ _ _ _ _ c.if-p-lt109.false c.requires c.hold_place-count.ensures; j_bound = place_in_sector _ _ c.requires.fits.holds.entries c.requires.fits.holds.two }
+    record { s_in_bounds = place_held _ _ _ _ _ c.if-p-lt109.false c.requires c.hold_place-count.ensures; j_bound = place_in_sector _ _ c.requires.fits.holds.entries c.requires.fits.holds.two }
 
 pub returns : goal.returns
 returns c =

@@ -1,7 +1,6 @@
 -- A place below 109 is in the header; of the others the test is the definition's own.
 use mathlib.Core.Path.{sym}
 use Rattle.disk.proofs.Counting.{needs_near, needs_told}
-use borrow.Author.Rules.{rules}
 use Rattle.disk.proofs.disk.needs_difat.Goals as goal
 
 pub returns-then-p-lt109 : goal.returns-then-p-lt109

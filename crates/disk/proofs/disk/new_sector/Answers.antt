@@ -1,6 +1,5 @@
 -- What is ready has room for the sector's entry and its bytes.
 use Rattle.disk.proofs.Growing.{new_entry, new_bytes, new_made}
-use borrow.Author.Rules.{rules}
 use Rattle.disk.proofs.disk.new_sector.Goals as goal
 
 pub set_fat-requires : goal.set_fat-requires

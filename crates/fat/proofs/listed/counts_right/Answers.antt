@@ -3,7 +3,6 @@ use Rattle.fat.proofs.Listing.{counts_same}
 use native.Mathlib.Omega.{arith}
 use borrow.Author.Tests.{eq-eqb, ne_eqb}
 use Rattle.fat.specs.Lists.{counts_right}
-use borrow.Author.Rules.{rules}
 use Rattle.fat.proofs.listed.counts_right.Goals as goal
 
 pub returns-then-h-k : goal.returns-then-h-k

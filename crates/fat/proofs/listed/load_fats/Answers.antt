@@ -4,9 +4,7 @@ use mathlib.Core.Path.{◌≡◌, sym, ◌∙◌, ap}
 use lib.ListN.{length}
 use Rattle.fat.specs.Lists.{rest_free}
 use native.Mathlib.Omega.{arith}
-use borrow.Author.Tests.{not-true, not-false}
 use Rattle.fat.proofs.Listing.{below_more, fats_not, fats_more, fats_below, fats_load}
-use borrow.Author.Rules.{rules}
 use Rattle.fat.proofs.listed.load_fats.Goals as goal
 use Rattle.fat.proofs.listed.load_fats.Goals.{After-rest_free}
 
@@ -28,7 +26,7 @@ returns-then-not-rest_free c =
 
 pub different-requires : goal.different-requires
 different-requires c =
-    record {list_value = below_more _ _ _ c.requires.fats_len_bound.1 (fats_below _ _ _ _ _ _ _ _ c.list_fats.ensures (c.if-not-list_fats.false)); list_len_bound = omega (arith, c.list_fats.auto.fats, c.requires.fats_len_bound.0) }
+    record { list_value = below_more _ _ _ c.requires.fats_len_bound.1 (fats_below _ _ _ _ _ _ _ _ c.list_fats.ensures (c.if-not-list_fats.false)); list_len_bound = omega (arith, c.list_fats.auto.fats, c.requires.fats_len_bound.0) }
 
 pub returns : goal.returns
 returns c =

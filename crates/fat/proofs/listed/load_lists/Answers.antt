@@ -2,7 +2,6 @@
 use mathlib.Core.Path.{◌≡◌, sym, ◌∙◌}
 use lib.ListN.{length}
 use native.Mathlib.Omega.{arith}
-use borrow.Author.Tests.{not-true, not-false}
 use Rattle.fat.proofs.Listing.{fats_few, difats_few, places_ready, lists_not_counts, lists_not_chain, lists_load}
 use borrow.Author.Rules.{rules}
 use Rattle.fat.proofs.listed.load_lists.Goals as goal
@@ -17,7 +16,7 @@ returns-then-not-counts_right c = lists_not_counts _ _ _ _ _ _ c.requires.counte
 
 pub load_difats-requires : goal.load_difats-requires
 load_difats-requires c =
-    record {holds = c.requires.counted.holds; difats_len_bound = (omega (arith, difats_few _ _ _ _ _ c.requires.counted, c.requires.counted.few), c.requires.n_in_bounds) }
+    record { holds = c.requires.counted.holds; difats_len_bound = (omega (arith, difats_few _ _ _ _ _ c.requires.counted, c.requires.counted.few), c.requires.n_in_bounds) }
 
 pub returns-then-not-load_difats : goal.returns-then-not-load_difats
 returns-then-not-load_difats c =
@@ -26,7 +25,7 @@ returns-then-not-load_difats c =
 pub load_fats-requires : goal.load_fats-requires
 load_fats-requires c =
     let passed = goal.at.load_fats-requires c in
-    let kept = c.load_difats.auto in record {places = places_ready _ _ _ _ _ _ _ _ _ _ c.requires.counted (entries-there passed.After-list-2-1) kept.difats c.load_difats.ensures (c.if-not-load_difats.false); fats_len_bound = (omega (arith, fats_few _ _ _ _ _ c.requires.counted, c.requires.counted.few), omega (arith, kept.scratch, c.requires.n_in_bounds)) }
+    let kept = c.load_difats.auto in record { places = places_ready _ _ _ _ _ _ _ _ _ _ c.requires.counted (entries-there passed.After-list-2-1) kept.difats c.load_difats.ensures (c.if-not-load_difats.false); fats_len_bound = (omega (arith, fats_few _ _ _ _ _ c.requires.counted, c.requires.counted.few), omega (arith, kept.scratch, c.requires.n_in_bounds)) }
 
 pub returns : goal.returns
 returns c =

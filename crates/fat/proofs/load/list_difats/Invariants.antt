@@ -1,13 +1,10 @@
 -- The invariant: id is the j-th sector of the chain, the j before it are below n, and they stand at the front of the list.
 use Prim.Native.Nat.{◌-◌, ◌^◌, ◌≤◌, ◌<◌}
-use mathlib.Core.Path.{◌≡◌, refl}
-use native.Mathlib.Omega.{arith}
-use borrow.Author.Rules.{rules}
-use lib.ListN.{length, length-set}
+use mathlib.Core.Path.{◌≡◌}
+use lib.ListN.{length}
 use Rattle.sectors.specs.Sectors.{per_sector}
-use Rattle.sectors.proofs.Laws.{sector_within, last_within}
 use Rattle.fat.specs.Lists.{difat_at}
-use Rattle.fat.proofs.Loading.{Filling, filling_none, filling_more, chain_first, chain_next, chain_stops, chain_ends}
+use Rattle.fat.proofs.Loading.{Filling}
 use Rattle.fat.proofs.load.list_difats.Given as goal
 
 abbrev pub invariant-loop-j : goal.invariant-loop-j

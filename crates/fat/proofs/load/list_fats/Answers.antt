@@ -1,9 +1,7 @@
-use Prim.Native.Nat.{◌-◌, ◌≤◌}
-use mathlib.Core.Path.{◌≡◌, refl}
+use mathlib.Core.Path.{refl}
 use native.Mathlib.Omega.{arith}
 use lib.ListN.{length, length-set}
-use Rattle.fat.specs.Lists.{place_at}
-use Rattle.fat.proofs.Loading.{Filling, filling_none, filling_more, places_stop, places_end, fewer_places}
+use Rattle.fat.proofs.Loading.{filling_none, filling_more, places_stop, places_end, fewer_places}
 use Rattle.fat.proofs.load.list_fats.Goals as goal
 
 pub loop-p-init : goal.loop-p-init

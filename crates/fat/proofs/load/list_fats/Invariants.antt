@@ -1,10 +1,9 @@
 -- The invariant: the first p places are below n, and stand at the front of the list.
 use Prim.Native.Nat.{◌-◌, ◌≤◌}
-use mathlib.Core.Path.{◌≡◌, refl}
-use native.Mathlib.Omega.{arith}
-use lib.ListN.{length, length-set}
+use mathlib.Core.Path.{◌≡◌}
+use lib.ListN.{length}
 use Rattle.fat.specs.Lists.{place_at}
-use Rattle.fat.proofs.Loading.{Filling, filling_none, filling_more, places_stop, places_end, fewer_places}
+use Rattle.fat.proofs.Loading.{Filling}
 use Rattle.fat.proofs.load.list_fats.Given as goal
 
 abbrev pub invariant-loop-p : goal.invariant-loop-p

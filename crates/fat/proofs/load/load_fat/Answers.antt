@@ -1,12 +1,11 @@
-use Prim.Native.Nat.{◌-◌, ◌*◌, ◌≤◌, ◌<◌, min}
+use Prim.Native.Nat.{◌*◌, ◌<◌, min}
 use mathlib.Core.Path.{◌≡◌, refl, ◌∙◌, ap}
 use native.Mathlib.Omega.{arith}
-use borrow.Author.Rules.{rules}
 use lib.ListN.{length, get_or, length-take}
 use Rattle.sectors.specs.Sectors.{per_sector}
 use Rattle.sectors.proofs.Laws.{sector_within}
 use Rattle.fat.proofs.Differing.{below_at}
-use Rattle.fat.proofs.Loading.{Loaded, loaded_none, loaded_more, loaded_all, sector_begins}
+use Rattle.fat.proofs.Loading.{loaded_none, loaded_more, loaded_all, sector_begins}
 use Rattle.fat.proofs.load.load_fat.Goals as goal
 use Rattle.fat.proofs.load.load_fat.Goals.{In-loop-p}
 
@@ -52,7 +51,7 @@ slice_bounds-load_at-end c = omega (arith, c.loop-p.invariant.2.same, c.lesser-b
 pub load_at-requires : goal.load_at-requires
 load_at-requires c =
     let passed = goal.at.load_at-requires c in
-    record {s_in_bounds = sector_within _ _ _ _ c.requires.holds (at-id passed.In-loop-p); le_s = (omega (arith, c.requires.holds.two), simp length-take (omega (arith, c.requires.holds.entries, c.lesser-b.ensures))) }
+    record { s_in_bounds = sector_within _ _ _ _ c.requires.holds (at-id passed.In-loop-p); le_s = (omega (arith, c.requires.holds.two), simp length-take (omega (arith, c.requires.holds.entries, c.lesser-b.ensures))) }
 
 pub loop-p-preserved : goal.loop-p-preserved
 loop-p-preserved c =

@@ -6,7 +6,6 @@ use native.Mathlib.Omega.{arith}
 use Rattle.sectors.proofs.Laws.{sector_within}
 use Rattle.fat.proofs.Differing.{below_at}
 use Rattle.fat.proofs.Loading.{place_low, place_high, place_index, place_slot}
-use borrow.Author.Rules.{rules}
 use Rattle.fat.proofs.load.place_at.Goals as goal
 use Rattle.fat.proofs.load.place_at.Goals.{After-shared_slice_known-1}
 
@@ -41,7 +40,7 @@ overflow_cast-id c =
 pub entry_at-requires : goal.entry_at-requires
 entry_at-requires c =
     let passed = goal.at.entry_at-requires c in
-    record {s_in_bounds = sector_within _ _ _ _ c.requires.holds (at-id passed.After-shared_slice_known-1 c.if-p-lt109.false); j_bound = place_slot _ _ c.requires.holds.entries c.requires.holds.two }
+    record { s_in_bounds = sector_within _ _ _ _ c.requires.holds (at-id passed.After-shared_slice_known-1 c.if-p-lt109.false); j_bound = place_slot _ _ c.requires.holds.entries c.requires.holds.two }
 
 pub returns : goal.returns
 returns c = place_high _ _ _ _ _ _ c.if-p-lt109.false c.entry_at.ensures

@@ -1,9 +1,7 @@
 use mathlib.Core.Logic.{inl, inr}
-use Prim.Native.Nat.{ℕ, ◌+◌, ◌-◌, ◌*◌, ◌≤◌}
+use Prim.Native.Nat.{ℕ, ◌+◌, ◌-◌, ◌*◌}
 use mathlib.Core.Path.{◌≡◌, refl, ◌∙◌, ap}
 use native.Mathlib.Omega.{arith}
-use borrow.Author.Rules.{rules}
-use lib.Dec.{eqb}
 use lib.ListN.{length}
 use Rattle.lists.specs.Lists.{every}
 use Rattle.consts.specs.Consts.{free_sector}
@@ -48,7 +46,7 @@ loop-j-preserved c = let l = c.loop-j in
       l.invariant.1,
       omega arith,
       elim c.if-place_at.branch [
-        then-place_at w ↦ compared (λ i. at (109 + (c.args.k - 109) + i)) (λ i. free_sector) _ _ _ _ read l.invariant.3 (inl (w.if-place_at.true, w.free-is)) (λ v. v) (λ v. v)
+        | then-place_at w ↦ compared (λ i. at (109 + (c.args.k - 109) + i)) (λ i. free_sector) _ _ _ _ read l.invariant.3 (inl (w.if-place_at.true, w.free-is)) (λ v. v) (λ v. v)
         | else-place_at w ↦ compared (λ i. at (109 + (c.args.k - 109) + i)) (λ i. free_sector) _ _ _ _ read l.invariant.3 (inr (w.if-place_at.false, w.free-is)) (λ v. v) (λ v. v)
       ],
     )

@@ -1,16 +1,12 @@
 -- The invariant: the flag says whether the first j places of the DIFAT sectors past the k are all FREE.
-use Prim.Native.Nat.{ℕ, ◌+◌, ◌-◌, ◌*◌, ◌≤◌}
-use mathlib.Core.Path.{◌≡◌, refl, ◌∙◌, ap}
-use native.Mathlib.Omega.{arith}
-use borrow.Author.Rules.{rules}
+use Prim.Native.Nat.{◌+◌, ◌-◌, ◌*◌, ◌≤◌}
+use mathlib.Core.Path.{◌≡◌}
 use lib.Dec.{eqb}
 use lib.ListN.{length}
 use Rattle.lists.specs.Lists.{every}
 use Rattle.consts.specs.Consts.{free_sector}
 use Rattle.sectors.specs.Sectors.{per_sector}
-use Rattle.fat.specs.Lists.{place_at, rest_free}
-use Rattle.fat.proofs.Differing.{compared}
-use Rattle.fat.proofs.Loading.{fewer_places}
+use Rattle.fat.specs.Lists.{place_at}
 use Rattle.fat.proofs.load.rest_free.Given as goal
 
 abbrev pub invariant-loop-j : goal.invariant-loop-j

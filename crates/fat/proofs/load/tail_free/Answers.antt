@@ -7,7 +7,6 @@ use Rattle.sectors.specs.Sectors.{per_sector}
 use Rattle.sectors.proofs.Laws.{sector_within}
 use Rattle.fat.proofs.Differing.{below_at}
 use Rattle.fat.proofs.Loading.{sector_begins, sector_reaches, tail_none, tail_last}
-use borrow.Author.Rules.{rules}
 use Rattle.fat.proofs.load.tail_free.Goals as goal
 use Rattle.fat.proofs.load.tail_free.Goals.{Else-k-eq0}
 
@@ -53,7 +52,7 @@ overflow_sub-done-2 c =
 pub free_at-requires : goal.free_at-requires
 free_at-requires c =
     let passed = goal.at.free_at-requires c in
-    record {s_in_bounds = sector_within _ _ _ _ c.requires.holds (at-id passed.Else-k-eq0); le_s = (omega (arith, c.requires.holds.two), omega (arith, c.requires.holds.entries, begins passed.Else-k-eq0, reaches passed.Else-k-eq0)) }
+    record { s_in_bounds = sector_within _ _ _ _ c.requires.holds (at-id passed.Else-k-eq0); le_s = (omega (arith, c.requires.holds.two), omega (arith, c.requires.holds.entries, begins passed.Else-k-eq0, reaches passed.Else-k-eq0)) }
 
 pub returns : goal.returns
 returns c =

@@ -1,11 +1,10 @@
 use mathlib.Core.Logic.{inl, inr}
-use Prim.Native.Nat.{◌≤◌, ◌<◌, ◌-◌}
+use Prim.Native.Nat.{◌<◌}
 use mathlib.Core.Path.{◌≡◌, refl}
 use native.Mathlib.Omega.{arith}
-use borrow.Author.Rules.{rules}
 use lib.ListN.{length}
 use Rattle.lists.specs.Lists.{every}
-use Rattle.fat.proofs.Differing.{below_given, stands_at, listed_turn}
+use Rattle.fat.proofs.Differing.{below_given, listed_turn}
 use Rattle.fat.proofs.places.places_stand.Goals as goal
 use Rattle.fat.proofs.places.places_stand.Goals.{then-index-j, else-index-j}
 use Rattle.fat.proofs.places.places_stand.Goals.{After-index-i}
@@ -33,7 +32,7 @@ loop-j-preserved c = let at = c.index-i in
     let a = c.args in (
       omega arith,
       elim c.if-index-j.branch [
-        then-index-j w ↦ listed_turn a.scratch.now a.list.now (λ k. k) _ at.result stored.result _ _ at.ensures stored.ensures c.loop-j.invariant.1 (inl (w.if-index-j.true, w.stand-is)) (λ v. v) (λ v. v)
+        | then-index-j w ↦ listed_turn a.scratch.now a.list.now (λ k. k) _ at.result stored.result _ _ at.ensures stored.ensures c.loop-j.invariant.1 (inl (w.if-index-j.true, w.stand-is)) (λ v. v) (λ v. v)
         | else-index-j w ↦ listed_turn a.scratch.now a.list.now (λ k. k) _ at.result stored.result _ _ at.ensures stored.ensures c.loop-j.invariant.1 (inr (w.if-index-j.false, w.stand-is)) (λ v. v) (λ v. v)
       ],
     )

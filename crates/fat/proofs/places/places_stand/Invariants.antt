@@ -1,11 +1,9 @@
 -- `places::places_stand` meets its contract: the flag says whether the places passed stand.
-use Prim.Native.Nat.{◌≤◌, ◌<◌, ◌-◌}
-use mathlib.Core.Path.{◌≡◌, refl}
-use native.Mathlib.Omega.{arith}
-use borrow.Author.Rules.{rules}
+use Prim.Native.Nat.{◌≤◌, ◌-◌}
+use mathlib.Core.Path.{◌≡◌}
 use lib.ListN.{length}
 use Rattle.lists.specs.Lists.{every}
-use Rattle.fat.proofs.Differing.{below_given, stands_at, listed_turn}
+use Rattle.fat.proofs.Differing.{stands_at}
 use Rattle.fat.proofs.places.places_stand.Given as goal
 
 abbrev pub invariant-loop-j : goal.invariant-loop-j

@@ -1,9 +1,8 @@
-use Prim.Native.Nat.{◌≤◌, ◌<◌, ◌-◌}
+use Prim.Native.Nat.{◌<◌}
 use mathlib.Core.Path.{◌≡◌, refl}
 use native.Mathlib.Omega.{arith}
-use borrow.Author.Rules.{rules}
 use lib.ListN.{length, length-set}
-use Rattle.fat.proofs.Differing.{Placed, below_given, placed_none, placed_more}
+use Rattle.fat.proofs.Differing.{below_given, placed_none, placed_more}
 use Rattle.fat.proofs.places.put_places.Goals as goal
 use Rattle.fat.proofs.places.put_places.Goals.{After-index-i}
 

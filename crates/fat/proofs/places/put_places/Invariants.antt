@@ -1,10 +1,8 @@
 -- `places::put_places` meets its contract: the places stored so far are places in the list of the numbers they stand at.
-use Prim.Native.Nat.{◌≤◌, ◌<◌, ◌-◌}
-use mathlib.Core.Path.{◌≡◌, refl}
-use native.Mathlib.Omega.{arith}
-use borrow.Author.Rules.{rules}
-use lib.ListN.{length, length-set}
-use Rattle.fat.proofs.Differing.{Placed, below_given, placed_none, placed_more}
+use Prim.Native.Nat.{◌≤◌, ◌-◌}
+use mathlib.Core.Path.{◌≡◌}
+use lib.ListN.{length}
+use Rattle.fat.proofs.Differing.{Placed}
 use Rattle.fat.proofs.places.put_places.Given as goal
 
 abbrev pub invariant-loop-j : goal.invariant-loop-j

@@ -1,11 +1,5 @@
-use Prim.Native.Nat.{◌≤◌, ◌-◌}
-use mathlib.Core.Path.{◌≡◌, ◌∙◌, sym, refl}
-use mathlib.Core.Logic.{⊎_elim}
-use borrow.Author.Rules.{rules}
+use mathlib.Core.Path.{◌∙◌, sym, refl}
 use native.Mathlib.Omega.{arith}
-use lib.ListN.{length, drop}
-use Rattle.lists.specs.Lists.{both}
-use Rattle.fields.specs.Fields.{all_free}
 use Rattle.fields.proofs.Listed.{flag_free, flag_other, flag_end}
 use Rattle.fields.proofs.entries.all_free.Goals as goal
 use Rattle.fields.proofs.entries.all_free.Goals.{then-list-i, else-list-i}
@@ -19,7 +13,7 @@ loop-i-preserved c = let l = c.loop-i in
     let h = c.loop-i-test.true in (
       omega arith,
       elim c.if-list-i.branch [
-        then-list-i w ↦ flag_other xs l.i l.free c.if-list-i.free h l.invariant.1 w.if-list-i.true w.free-is
+        | then-list-i w ↦ flag_other xs l.i l.free c.if-list-i.free h l.invariant.1 w.if-list-i.true w.free-is
         | else-list-i w ↦ flag_free xs l.i l.free c.if-list-i.free h l.invariant.1 w.if-list-i.false w.free-is
       ],
     )

@@ -1,13 +1,9 @@
 -- The invariant: the whole list is FREE exactly when the flag holds and the list from i on is FREE.
 use Prim.Native.Nat.{◌≤◌, ◌-◌}
-use mathlib.Core.Path.{◌≡◌, ◌∙◌, sym, refl}
-use mathlib.Core.Logic.{⊎_elim}
-use borrow.Author.Rules.{rules}
-use native.Mathlib.Omega.{arith}
+use mathlib.Core.Path.{◌≡◌}
 use lib.ListN.{length, drop}
 use Rattle.lists.specs.Lists.{both}
 use Rattle.fields.specs.Fields.{all_free}
-use Rattle.fields.proofs.Listed.{flag_free, flag_other, flag_end}
 use Rattle.fields.proofs.entries.all_free.Given as goal
 
 abbrev pub invariant-loop-i : goal.invariant-loop-i

@@ -4,7 +4,6 @@ use mathlib.Core.Path.{◌∙◌}
 use native.Mathlib.Omega.{arith}
 use lib.ListN.{length}
 use Rattle.fields.proofs.Listed.{ids_within, rest_free_lem}
-use borrow.Author.Rules.{rules}
 use Rattle.fields.proofs.entries.ids_then_free.Goals as goal
 use Rattle.fields.proofs.entries.ids_then_free.Goals.{After-leading_ids-n}
 

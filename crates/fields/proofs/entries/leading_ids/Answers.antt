@@ -1,9 +1,4 @@
-use Prim.Native.Nat.{◌≤◌, ◌+◌, ◌-◌}
-use mathlib.Core.Path.{◌≡◌}
-use borrow.Author.Rules.{rules}
 use native.Mathlib.Omega.{arith}
-use lib.ListN.{length, drop}
-use Rattle.fields.specs.Fields.{ids_in}
 use Rattle.fields.proofs.Listed.{ids_more, ids_stop, ids_end}
 use Rattle.fields.proofs.entries.leading_ids.Goals as goal
 

@@ -1,11 +1,8 @@
 -- The invariant: the leading ids of the list are i and those of what is left from i on.
 use Prim.Native.Nat.{◌≤◌, ◌+◌, ◌-◌}
 use mathlib.Core.Path.{◌≡◌}
-use borrow.Author.Rules.{rules}
-use native.Mathlib.Omega.{arith}
 use lib.ListN.{length, drop}
 use Rattle.fields.specs.Fields.{ids_in}
-use Rattle.fields.proofs.Listed.{ids_more, ids_stop, ids_end}
 use Rattle.fields.proofs.entries.leading_ids.Given as goal
 
 abbrev pub invariant-loop-i : goal.invariant-loop-i

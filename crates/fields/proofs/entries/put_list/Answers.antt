@@ -1,11 +1,6 @@
-use Prim.Native.Nat.{◌≤◌, ◌-◌}
-use mathlib.Core.Path.{◌≡◌, refl, ◌∙◌}
+use mathlib.Core.Path.{refl, ◌∙◌}
 use native.Mathlib.Omega.{arith}
-use lib.ListN.{length, take}
-use Rattle.lists.specs.Lists.{splice}
-use Rattle.fields.specs.Fields.{list_bytes}
 use Rattle.fields.proofs.Listed.{entries_none, entries_more, entries_all}
-use borrow.Author.Rules.{rules}
 use Rattle.fields.proofs.entries.put_list.Goals as goal
 
 pub loop-i-init : goal.loop-i-init
@@ -18,8 +13,7 @@ bounds-list-i c = omega (arith, c.requires.list_len)
 pub loop-i-preserved : goal.loop-i-preserved
 loop-i-preserved c =
     let turn = c.put32 in
-    let l = c.loop-i in
-    (
+    let l = c.loop-i in (
       omega arith,
       l.invariant.1,
       entries_more c.args.buf.now l.buf turn.new.s 76 _ c.args.list.now l.i (omega (arith, c.requires.list_len)) (omega (arith, c.requires)) l.invariant.1 l.invariant.2 turn.ensures,

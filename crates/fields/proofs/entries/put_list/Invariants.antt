@@ -1,12 +1,9 @@
 -- The invariant: the buffer is as it was, with the bytes of the first i entries put over it from 76 on.
 use Prim.Native.Nat.{◌≤◌, ◌-◌}
-use mathlib.Core.Path.{◌≡◌, refl, ◌∙◌}
-use native.Mathlib.Omega.{arith}
+use mathlib.Core.Path.{◌≡◌}
 use lib.ListN.{length, take}
 use Rattle.lists.specs.Lists.{splice}
 use Rattle.fields.specs.Fields.{list_bytes}
-use Rattle.fields.proofs.Listed.{entries_none, entries_more, entries_all}
-use borrow.Author.Rules.{rules}
 use Rattle.fields.proofs.entries.put_list.Given as goal
 
 abbrev pub invariant-loop-i : goal.invariant-loop-i

@@ -3,7 +3,6 @@ use Prim.Native.Nat.{ℕ, ◌+◌, ◌*◌}
 use mathlib.Core.Path.{◌∙◌, ap}
 use Rattle.lists.specs.Lists.{splice}
 use Rattle.words.specs.Words.{digits}
-use borrow.Author.Rules.{rules}
 use Rattle.fields.proofs.entries.put_place.Goals as goal
 
 pub returns : goal.returns

@@ -1,10 +1,9 @@
-use Prim.Native.Nat.{ℕ, ◌+◌, ◌*◌, ◌≤◌, ◌-◌}
+use Prim.Native.Nat.{ℕ, ◌+◌, ◌*◌}
 use Rattle.words.specs.Words.{le}
 use mathlib.Core.Path.{◌≡◌, ◌∙◌, ap}
-use mathlib.Core.List.{List, ◌++◌, append-nil}
+use mathlib.Core.List.{List, append-nil}
 use native.Mathlib.Omega.{arith}
-use lib.ListN.{drop, replicate, set}
-use Rattle.lists.specs.Lists.{tab}
+use lib.ListN.{set}
 use Rattle.lists.proofs.Tab.{filled_none, filled_more}
 use Rattle.fields.specs.Fields.{entry_at, list_of}
 use Rattle.fields.proofs.entries.read_list.Goals as goal

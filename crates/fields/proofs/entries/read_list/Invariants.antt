@@ -1,13 +1,10 @@
 -- The invariant: the list holds the entries below i, and zeros from i on.
-use Prim.Native.Nat.{ℕ, ◌+◌, ◌*◌, ◌≤◌, ◌-◌}
-use Rattle.words.specs.Words.{le}
-use mathlib.Core.Path.{◌≡◌, ◌∙◌, ap}
-use mathlib.Core.List.{List, ◌++◌, append-nil}
-use native.Mathlib.Omega.{arith}
-use lib.ListN.{drop, replicate, set}
+use Prim.Native.Nat.{◌≤◌, ◌-◌}
+use mathlib.Core.Path.{◌≡◌}
+use mathlib.Core.List.{◌++◌}
+use lib.ListN.{drop, replicate}
 use Rattle.lists.specs.Lists.{tab}
-use Rattle.lists.proofs.Tab.{filled_none, filled_more}
-use Rattle.fields.specs.Fields.{entry_at, list_of}
+use Rattle.fields.specs.Fields.{entry_at}
 use Rattle.fields.proofs.entries.read_list.Given as goal
 
 abbrev pub invariant-loop-i : goal.invariant-loop-i

@@ -1,8 +1,6 @@
 -- The two tests are the definition's, in its order.
 use mathlib.Core.Path.{sym, ◌∙◌}
-use borrow.Author.Tests.{not-true, not-false}
 use Rattle.fields.specs.Fields.{unreadable}
-use borrow.Author.Rules.{rules}
 use Rattle.fields.proofs.entries.unreadable.Goals as goal
 
 pub returns-then-not-ids_then_free : goal.returns-then-not-ids_then_free

@@ -4,7 +4,6 @@ use mathlib.Core.Path.{◌≡◌, sym, ◌∙◌, ap}
 use mathlib.Core.Bool.{true}
 use mathlib.Core.List.{List}
 use native.Mathlib.Omega.{arith}
-use borrow.Author.Tests.{not-true, not-false}
 use lib.ListN.{length}
 use Rattle.lists.specs.Lists.{part, same_list}
 use Rattle.lists.specs.Rows.{Row, refusal}
@@ -15,7 +14,6 @@ use Rattle.header.specs.declared.judge.Fixed.{Fixed}
 use Rattle.header.specs.declared.Header.{Header}
 use Rattle.header.specs.declared.ReadVerdict.TheVariants.{Short, Signature, Entries}
 use Rattle.header.proofs.Reading.{gives_1, gives_2, gives_fixed, gives_9, gives_0, says_no, says_yes}
-use borrow.Author.Rules.{rules}
 use Rattle.header.proofs.Header.read_from.Goals as goal
 use Rattle.header.proofs.Header.read_from.Goals.{After-ids_then_free, After-judge-verdict, Else-not-signed, Else-number-ne0}
 

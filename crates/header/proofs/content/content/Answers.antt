@@ -2,7 +2,6 @@
 use mathlib.Core.Path.{◌∙◌, ap}
 use Rattle.header.specs.Versions.{version_of}
 use Rattle.header.specs.Read.{dirs_of, end_if_free, header_of}
-use borrow.Author.Rules.{rules}
 use Rattle.reader.specs.declared.Numbers.{Numbers}
 use Rattle.reader.proofs.Serving.{numbers_are}
 use Rattle.header.proofs.content.content.Goals as goal

@@ -5,31 +5,31 @@ use native.Mathlib.Omega.{arith}
 use Rattle.header.proofs.content.put_numbers.Goals as goal
 
 pub put_number-requires : goal.put_number-requires
-put_number-requires c = record {in_bounds = omega arith; place_value = refl }
+put_number-requires c = record { in_bounds = omega arith; place_value = refl }
 
 pub put_number-requires-2 : goal.put_number-requires-2
-put_number-requires-2 c = record {in_bounds = omega arith; place_value = refl }
+put_number-requires-2 c = record { in_bounds = omega arith; place_value = refl }
 
 pub put_number-requires-3 : goal.put_number-requires-3
-put_number-requires-3 c = record {in_bounds = omega arith; place_value = refl }
+put_number-requires-3 c = record { in_bounds = omega arith; place_value = refl }
 
 pub put_number-requires-4 : goal.put_number-requires-4
-put_number-requires-4 c = record {in_bounds = omega arith; place_value = refl }
+put_number-requires-4 c = record { in_bounds = omega arith; place_value = refl }
 
 pub put_number-requires-5 : goal.put_number-requires-5
-put_number-requires-5 c = record {in_bounds = omega arith; place_value = refl }
+put_number-requires-5 c = record { in_bounds = omega arith; place_value = refl }
 
 pub put_number-requires-6 : goal.put_number-requires-6
-put_number-requires-6 c = record {in_bounds = omega arith; place_value = refl }
+put_number-requires-6 c = record { in_bounds = omega arith; place_value = refl }
 
 pub put_number-requires-7 : goal.put_number-requires-7
-put_number-requires-7 c = record {in_bounds = omega arith; place_value = refl }
+put_number-requires-7 c = record { in_bounds = omega arith; place_value = refl }
 
 pub put_number-requires-8 : goal.put_number-requires-8
-put_number-requires-8 c = record {in_bounds = omega arith; place_value = refl }
+put_number-requires-8 c = record { in_bounds = omega arith; place_value = refl }
 
 pub put_number-requires-9 : goal.put_number-requires-9
-put_number-requires-9 c = record {in_bounds = omega arith; place_value = refl }
+put_number-requires-9 c = record { in_bounds = omega arith; place_value = refl }
 
 pub returns : goal.returns
 returns c =

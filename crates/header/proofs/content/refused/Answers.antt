@@ -1,7 +1,6 @@
 -- The header is the empty one, by what `none` ensures.
 use mathlib.Core.Path.{ap}
 use Rattle.header.specs.declared.Header.{Header}
-use borrow.Author.Rules.{rules}
 use Rattle.header.proofs.content.refused.Goals as goal
 
 pub returns : goal.returns

@@ -2,9 +2,8 @@
 use mathlib.Core.Path.{◌≡◌, sym, ◌∙◌}
 use mathlib.Core.Bool.{true}
 use Rattle.header.specs.Versions.{is_strict}
-use borrow.Author.Tests.{eq-eqb, ne_eqb, not-true, not-false}
+use borrow.Author.Tests.{eq-eqb, ne_eqb}
 use Rattle.header.specs.Read.{counts_dirs}
-use borrow.Author.Rules.{rules}
 use Rattle.header.proofs.judge.counts_dirs.Goals as goal
 use Rattle.header.proofs.judge.counts_dirs.Goals.{After-is_strict, Else-not-is_strict}
 

@@ -6,7 +6,6 @@ use Rattle.lists.proofs.Cases.{alike, unlike}
 use Rattle.lists.proofs.Rows.{Passed, passed_none, passed_more, passed_given, passed_all}
 use Rattle.header.specs.Versions.{shift_of, version_of}
 use Rattle.header.specs.Read.{fixed_rows}
-use borrow.Author.Rules.{rules}
 use Rattle.header.proofs.judge.judge.Goals as goal
 use Rattle.header.proofs.judge.judge.Goals.{After-sector_shift, Else-counts_dirs, Else-f, Else-f-2, Else-f-ne-MINI_STREAM_CUTOFF, Else-f-sector_shift, Else-unknown, Start}
 

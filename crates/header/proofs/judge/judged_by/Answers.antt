@@ -1,7 +1,6 @@
 -- What the reader gives of a whole header is the number in each field, and the definition reads the same fields.
 use mathlib.Core.Path.{◌∙◌}
 use Rattle.header.specs.Read.{fixed_of}
-use borrow.Author.Rules.{rules}
 use Rattle.reader.proofs.Serving.{numbers_are}
 use Rattle.header.proofs.judge.judged_by.Goals as goal
 

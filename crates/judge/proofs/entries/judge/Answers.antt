@@ -1,8 +1,8 @@
-use Prim.Native.Nat.{ℕ, ◌-◌}
+use Prim.Native.Nat.{ℕ}
 use mathlib.Core.Path.{◌≡◌, ◌∙◌, sym, ap}
 use native.Mathlib.Omega.{arith}
 use lib.ListN.{length, length-replicate}
-use Rattle.judge.proofs.Judging.{Judging, judging_begun, judging_stops, judging_more, judging_ends}
+use Rattle.judge.proofs.Judging.{judging_begun, judging_stops, judging_more, judging_ends}
 use Rattle.judge.proofs.entries.judge.Goals as goal
 use Rattle.judge.proofs.entries.judge.Goals.{At-loop-i}
 

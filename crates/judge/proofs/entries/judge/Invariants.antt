@@ -1,9 +1,7 @@
 -- The invariant: what is wrong from sector i on is what is wrong at all, and the entries below i are forgiven and marked.
-use Prim.Native.Nat.{ℕ, ◌-◌}
-use mathlib.Core.Path.{◌≡◌, ◌∙◌, sym, ap}
-use native.Mathlib.Omega.{arith}
-use lib.ListN.{length, length-replicate}
-use Rattle.judge.proofs.Judging.{Judging, judging_begun, judging_stops, judging_more, judging_ends}
+use Prim.Native.Nat.{◌-◌}
+use lib.ListN.{length}
+use Rattle.judge.proofs.Judging.{Judging}
 use Rattle.judge.proofs.entries.judge.Given as goal
 
 abbrev pub invariant-loop-i : goal.invariant-loop-i

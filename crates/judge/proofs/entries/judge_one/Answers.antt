@@ -1,6 +1,5 @@
 -- Each way out is one of the cases of an entry: reserved, special, past the end, pointing at a marked sector or at an unmarked one.
 use Rattle.judge.proofs.Judging.{one_reserved, one_special, one_past_strict, one_past, one_twice, one_first}
-use borrow.Author.Rules.{rules}
 use Rattle.judge.proofs.entries.judge_one.Goals as goal
 
 pub returns-then-e : goal.returns-then-e

@@ -1,9 +1,4 @@
-use Prim.Native.Nat.{◌-◌}
-use mathlib.Core.Logic.{⊎_elim}
-use borrow.Author.Rules.{rules}
-use native.Mathlib.Omega.{arith}
-use lib.ListN.{length}
-use Rattle.judge.proofs.Judging.{Listing, listing_begun, listing_more, listing_same, listing_ends}
+use Rattle.judge.proofs.Judging.{listing_begun, listing_more, listing_same, listing_ends}
 use Rattle.judge.proofs.entries.list_free.Goals as goal
 use Rattle.judge.proofs.entries.list_free.Goals.{then-fat-i, else-fat-i}
 
@@ -14,7 +9,7 @@ pub loop-i-preserved : goal.loop-i-preserved
 loop-i-preserved c =
     let h = c.loop-i-test.true in
     elim c.if-fat-i.branch [
-      then-fat-i w ↦ rw (w.frees-is, w.count-is) (listing_more c.loop-i.invariant h c.requires.fat_in_bounds w.if-fat-i.true)
+      | then-fat-i w ↦ rw (w.frees-is, w.count-is) (listing_more c.loop-i.invariant h c.requires.fat_in_bounds w.if-fat-i.true)
       | else-fat-i w ↦ rw (w.frees-is, w.count-is) (listing_same c.loop-i.invariant h w.if-fat-i.false)
     ]
 

@@ -1,10 +1,7 @@
 -- The invariant: the list holds the FREE sectors below i, and then what it held before.
 use Prim.Native.Nat.{◌-◌}
-use mathlib.Core.Logic.{⊎_elim}
-use borrow.Author.Rules.{rules}
-use native.Mathlib.Omega.{arith}
 use lib.ListN.{length}
-use Rattle.judge.proofs.Judging.{Listing, listing_begun, listing_more, listing_same, listing_ends}
+use Rattle.judge.proofs.Judging.{Listing}
 use Rattle.judge.proofs.entries.list_free.Given as goal
 
 abbrev pub invariant-loop-i : goal.invariant-loop-i

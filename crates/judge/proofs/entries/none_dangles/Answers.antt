@@ -1,11 +1,9 @@
-use Prim.Native.Nat.{◌≤◌, ◌-◌}
 use mathlib.Core.Path.{◌≡◌, refl}
-use borrow.Author.Rules.{rules}
 use native.Mathlib.Omega.{arith}
 use lib.ListN.{length}
 use Rattle.lists.specs.Lists.{every}
 use Rattle.judge.specs.Judge.{none_dangles}
-use Rattle.judge.proofs.Judging.{sound, sound_more, length_marks}
+use Rattle.judge.proofs.Judging.{sound_more, length_marks}
 use Rattle.judge.proofs.entries.none_dangles.Goals as goal
 
 pub loop-i-init : goal.loop-i-init

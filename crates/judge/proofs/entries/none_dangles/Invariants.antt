@@ -1,12 +1,9 @@
 -- The invariant: the flag says whether the sectors below i are sound.
 use Prim.Native.Nat.{◌≤◌, ◌-◌}
-use mathlib.Core.Path.{◌≡◌, refl}
-use borrow.Author.Rules.{rules}
-use native.Mathlib.Omega.{arith}
+use mathlib.Core.Path.{◌≡◌}
 use lib.ListN.{length}
 use Rattle.lists.specs.Lists.{every}
-use Rattle.judge.specs.Judge.{none_dangles}
-use Rattle.judge.proofs.Judging.{sound, sound_more, length_marks}
+use Rattle.judge.proofs.Judging.{sound}
 use Rattle.judge.proofs.entries.none_dangles.Given as goal
 
 abbrev pub invariant-loop-i : goal.invariant-loop-i

@@ -8,9 +8,7 @@ use Rattle.lists.specs.Lists.{both}
 use Rattle.consts.specs.Consts.{difat_sector, fat_sector}
 use Rattle.judge.specs.Judge.{all_marked, marked_fat}
 use Rattle.judge.specs.Judged.{Judged}
-use borrow.Author.Tests.{not-true, not-false}
 use Rattle.judge.proofs.Rows.{judged_same, fat_14, fat_wrong, fat_marks, fat_18, fat_0}
-use borrow.Author.Rules.{rules}
 use Rattle.judge.proofs.judged.judge_fat.Goals as goal
 use Rattle.judge.proofs.judged.judge_fat.Goals.{After-judge-wrong, Else-unmarked}
 
@@ -27,7 +25,7 @@ returns-then-unmarked c = fat_14 _ _ _ _ _ _ (sym c.unmarked.ensures ∙ c.if-un
 
 pub judge-wrong-requires : goal.judge-wrong-requires
 judge-wrong-requires c =
-    record {fat_len_bound = omega (arith, c.set_listed.auto.fat, c.requires.fat_len_bound); marks_value = c.requires.marks_value ∙ ap (λ (k : ℕ). replicate k 0) (sym c.set_listed.auto.fat) }
+    record { fat_len_bound = omega (arith, c.set_listed.auto.fat, c.requires.fat_len_bound); marks_value = c.requires.marks_value ∙ ap (λ (k : ℕ). replicate k 0) (sym c.set_listed.auto.fat) }
 
 pub returns-then-wrong-ne0 : goal.returns-then-wrong-ne0
 returns-then-wrong-ne0 c =

@@ -1,9 +1,7 @@
 -- The marks matter only in strict, where the answer is that not both lists have theirs.
 use mathlib.Core.Path.{sym, ◌∙◌, ap}
 use mathlib.Core.Bool.{not}
-use borrow.Author.Tests.{not-true, not-false}
 use Rattle.lists.proofs.Cases.{both_false_left, both_of_true}
-use borrow.Author.Rules.{rules}
 use Rattle.judge.proofs.judged.unmarked.Goals as goal
 
 pub returns-then-not-strict : goal.returns-then-not-strict

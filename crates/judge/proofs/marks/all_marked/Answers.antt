@@ -1,13 +1,11 @@
 use mathlib.Core.Logic.{inl, inr}
-use Prim.Native.Nat.{◌≤◌, ◌<◌, ◌-◌}
+use Prim.Native.Nat.{◌<◌}
 use mathlib.Core.Path.{◌≡◌, refl}
 use native.Mathlib.Omega.{arith}
-use borrow.Author.Rules.{rules}
-use lib.Dec.{eqb}
 use lib.ListN.{length}
 use Rattle.lists.specs.Lists.{every}
 use Rattle.judge.specs.Judge.{all_marked}
-use Rattle.fat.proofs.Differing.{listed_at, below_given, listed_turn}
+use Rattle.fat.proofs.Differing.{below_given, listed_turn}
 use Rattle.judge.proofs.marks.all_marked.Goals as goal
 use Rattle.judge.proofs.marks.all_marked.Goals.{then-fat-i, else-fat-i}
 use Rattle.judge.proofs.marks.all_marked.Goals.{After-index-i}
@@ -34,7 +32,7 @@ loop-j-preserved c = let at = c.index-i in
     let a = c.args in (
       omega arith,
       elim c.if-fat-i.branch [
-        then-fat-i w ↦ listed_turn a.fat.now a.ids.now (λ k. a.v) _ at.result _ _ _ at.ensures refl c.loop-j.invariant.1 (inl (w.if-fat-i.true, w.marked-is)) (λ v. v) (λ v. v)
+        | then-fat-i w ↦ listed_turn a.fat.now a.ids.now (λ k. a.v) _ at.result _ _ _ at.ensures refl c.loop-j.invariant.1 (inl (w.if-fat-i.true, w.marked-is)) (λ v. v) (λ v. v)
         | else-fat-i w ↦ listed_turn a.fat.now a.ids.now (λ k. a.v) _ at.result _ _ _ at.ensures refl c.loop-j.invariant.1 (inr (w.if-fat-i.false, w.marked-is)) (λ v. v) (λ v. v)
       ],
     )

@@ -1,13 +1,10 @@
 -- `marks::all_marked` meets its contract: the flag says whether the sectors passed have the entry.
-use Prim.Native.Nat.{◌≤◌, ◌<◌, ◌-◌}
-use mathlib.Core.Path.{◌≡◌, refl}
-use native.Mathlib.Omega.{arith}
-use borrow.Author.Rules.{rules}
+use Prim.Native.Nat.{◌≤◌, ◌-◌}
+use mathlib.Core.Path.{◌≡◌}
 use lib.Dec.{eqb}
 use lib.ListN.{length}
 use Rattle.lists.specs.Lists.{every}
-use Rattle.judge.specs.Judge.{all_marked}
-use Rattle.fat.proofs.Differing.{listed_at, below_given, listed_turn}
+use Rattle.fat.proofs.Differing.{listed_at}
 use Rattle.judge.proofs.marks.all_marked.Given as goal
 
 abbrev pub invariant-loop-j : goal.invariant-loop-j

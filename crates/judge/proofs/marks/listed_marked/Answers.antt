@@ -1,7 +1,5 @@
 -- `marks::listed_marked` meets its contract: the second list is looked at where the first has its marks.
 use mathlib.Core.Path.{◌∙◌, sym}
-use borrow.Author.Rules.{rules}
-use borrow.Author.Tests.{not-true, not-false}
 use Rattle.lists.proofs.Cases.{both_false_left, both_of_true}
 use Rattle.judge.proofs.marks.listed_marked.Goals as goal
 

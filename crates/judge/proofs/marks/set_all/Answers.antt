@@ -1,9 +1,7 @@
-use Prim.Native.Nat.{◌≤◌, ◌<◌, ◌-◌}
-use mathlib.Core.Path.{◌≡◌, refl}
+use Prim.Native.Nat.{◌<◌}
+use mathlib.Core.Path.{refl}
 use native.Mathlib.Omega.{arith}
-use borrow.Author.Rules.{rules}
-use lib.ListN.{length, drop, length-set}
-use Rattle.judge.specs.Judge.{set_all}
+use lib.ListN.{length, length-set}
 use Rattle.fat.proofs.Differing.{below_given}
 use Rattle.judge.proofs.Marking.{set_turn, set_end}
 use Rattle.judge.proofs.marks.set_all.Goals as goal

@@ -1,12 +1,8 @@
 -- `marks::set_all` meets its contract: what is left to set, set in the FAT so far, gives the whole.
-use Prim.Native.Nat.{◌≤◌, ◌<◌, ◌-◌}
-use mathlib.Core.Path.{◌≡◌, refl}
-use native.Mathlib.Omega.{arith}
-use borrow.Author.Rules.{rules}
-use lib.ListN.{length, drop, length-set}
+use Prim.Native.Nat.{◌≤◌, ◌-◌}
+use mathlib.Core.Path.{◌≡◌}
+use lib.ListN.{length, drop}
 use Rattle.judge.specs.Judge.{set_all}
-use Rattle.fat.proofs.Differing.{below_given}
-use Rattle.judge.proofs.Marking.{set_turn, set_end}
 use Rattle.judge.proofs.marks.set_all.Given as goal
 
 abbrev pub invariant-loop-j : goal.invariant-loop-j

@@ -2,7 +2,6 @@
 use native.Mathlib.Omega.{arith}
 use Rattle.moves.proofs.Editing.{grown_fitted, cut_fitted, edit_asks, edit_small, edit_grow, edit_cut, edit_storable, edited_of}
 use Rattle.moves.proofs.Extending.{extended_at}
-use borrow.Author.Rules.{rules}
 use Rattle.moves.proofs.change.change.Goals as goal
 
 pub need_of-need-requires : goal.need_of-need-requires

@@ -1,7 +1,6 @@
 -- Each kind of edit asks for its own sectors.
 use mathlib.Core.Path.{sym, ◌∙◌}
 use Rattle.moves.proofs.Editing.{seek_write, more_write, more_resize}
-use borrow.Author.Rules.{rules}
 use Rattle.moves.proofs.change.more_of.Goals as goal
 
 pub sectors_past-requires : goal.sectors_past-requires

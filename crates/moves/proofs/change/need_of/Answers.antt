@@ -1,7 +1,6 @@
 -- A write leaves the chain no shorter; a resize gives it the sectors of its new length.
 use mathlib.Core.Path.{sym, ◌∙◌}
 use Rattle.moves.proofs.Editing.{need_write, need_resize}
-use borrow.Author.Rules.{rules}
 use Rattle.moves.proofs.change.need_of.Goals as goal
 
 pub returns-in-Write : goal.returns-in-Write

@@ -3,7 +3,6 @@ use Prim.Native.Nat.{ℕ}
 use mathlib.Core.Path.{ap}
 use Rattle.fat.specs.Lists.{room_of}
 use Rattle.moves.proofs.Shrinking.{shrink_cut, shrunk_none, shrunk_frees, shrunk_some}
-use borrow.Author.Rules.{rules}
 use Rattle.moves.proofs.change.shrink.Goals as goal
 
 pub returns-then-count-m : goal.returns-then-count-m

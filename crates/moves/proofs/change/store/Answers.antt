@@ -2,7 +2,6 @@
 use mathlib.Core.Path.{sym, ◌∙◌}
 use lib.Seq.{length-take-le}
 use Rattle.moves.proofs.Editing.{place_write, place_resize, stores_write, stores_zeros, stores_none}
-use borrow.Author.Rules.{rules}
 use Rattle.moves.proofs.change.store.Goals as goal
 
 pub slice_bounds-write-end : goal.slice_bounds-write-end

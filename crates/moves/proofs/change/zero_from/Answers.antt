@@ -1,5 +1,4 @@
 -- What lies past the place is filled with zeros; at the end there is nothing to fill.
-use borrow.Author.Rules.{rules}
 use Rattle.moves.proofs.Zeros.{zeroed_past, zeroed_none}
 use Rattle.moves.proofs.change.zero_from.Goals as goal
 

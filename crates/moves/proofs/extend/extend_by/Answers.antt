@@ -1,9 +1,6 @@
-use Prim.Native.Nat.{◌-◌}
 use mathlib.Core.Path.{refl}
 use native.Mathlib.Omega.{arith}
-use lib.ListN.{length}
-use Rattle.fat.specs.Lists.{room_of}
-use Rattle.moves.proofs.Extending.{chain_of, Extending, extending_begun, extending_one, extending_turn, extending_over}
+use Rattle.moves.proofs.Extending.{extending_begun, extending_one, extending_turn, extending_over}
 use Rattle.moves.proofs.extend.extend_by.Goals as goal
 
 pub loop-j-init : goal.loop-j-init

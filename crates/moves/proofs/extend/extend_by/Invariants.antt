@@ -1,10 +1,8 @@
 -- The invariant: what is left to extend from here on is the whole. A turn takes one sector more.
 use Prim.Native.Nat.{◌-◌}
-use mathlib.Core.Path.{refl}
-use native.Mathlib.Omega.{arith}
 use lib.ListN.{length}
 use Rattle.fat.specs.Lists.{room_of}
-use Rattle.moves.proofs.Extending.{chain_of, Extending, extending_begun, extending_one, extending_turn, extending_over}
+use Rattle.moves.proofs.Extending.{chain_of, Extending}
 use Rattle.moves.proofs.extend.extend_by.Given as goal
 
 abbrev pub invariant-loop-j : goal.invariant-loop-j

@@ -2,7 +2,6 @@
 use native.Mathlib.Omega.{arith}
 use Rattle.hand.proofs.Linking.{more_stock, more_link, more_place, more_small, extended_of}
 use Rattle.moves.proofs.Extending.{at_count}
-use borrow.Author.Rules.{rules}
 use Rattle.moves.proofs.extend.extend_one.Goals as goal
 
 pub take_sector_id-taken-requires : goal.take_sector_id-taken-requires

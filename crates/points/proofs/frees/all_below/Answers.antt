@@ -1,12 +1,9 @@
-use Prim.Native.Nat.{◌≤◌, ◌-◌}
 use mathlib.Core.Path.{◌≡◌, refl}
 use native.Mathlib.Omega.{arith}
-use lib.Dec.{ltb}
-use lib.ListN.{length, get_or}
+use lib.ListN.{length}
 use Rattle.lists.specs.Lists.{every}
 use Rattle.fat.specs.Lists.{all_below}
 use Rattle.points.proofs.Testing.{flag_more}
-use borrow.Author.Rules.{rules}
 use Rattle.points.proofs.frees.all_below.Goals as goal
 
 pub loop-i-init : goal.loop-i-init

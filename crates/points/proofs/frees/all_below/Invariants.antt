@@ -1,13 +1,9 @@
 -- The invariant: the flag says whether the numbers below i are below the limit.
 use Prim.Native.Nat.{◌≤◌, ◌-◌}
-use mathlib.Core.Path.{◌≡◌, refl}
-use native.Mathlib.Omega.{arith}
+use mathlib.Core.Path.{◌≡◌}
 use lib.Dec.{ltb}
 use lib.ListN.{length, get_or}
 use Rattle.lists.specs.Lists.{every}
-use Rattle.fat.specs.Lists.{all_below}
-use Rattle.points.proofs.Testing.{flag_more}
-use borrow.Author.Rules.{rules}
 use Rattle.points.proofs.frees.all_below.Given as goal
 
 abbrev pub invariant-loop-i : goal.invariant-loop-i

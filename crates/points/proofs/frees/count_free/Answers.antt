@@ -1,11 +1,8 @@
-use Prim.Native.Nat.{◌≤◌, ◌-◌}
 use mathlib.Core.Path.{◌≡◌, refl, ◌∙◌}
-use mathlib.Core.Logic.{⊎_elim}
 use native.Mathlib.Omega.{arith}
 use lib.ListN.{length}
 use Rattle.judge.specs.Judge.{frees_of, frees_from}
 use Rattle.points.proofs.Testing.{count_yes, count_no}
-use borrow.Author.Rules.{rules}
 use Rattle.points.proofs.frees.count_free.Goals as goal
 use Rattle.points.proofs.frees.count_free.Goals.{then-fat-i, else-fat-i}
 

@@ -1,12 +1,8 @@
 -- The invariant: the count is that of the FREE entries below i.
 use Prim.Native.Nat.{◌≤◌, ◌-◌}
-use mathlib.Core.Path.{◌≡◌, refl, ◌∙◌}
-use mathlib.Core.Logic.{⊎_elim}
-use native.Mathlib.Omega.{arith}
+use mathlib.Core.Path.{◌≡◌}
 use lib.ListN.{length}
-use Rattle.judge.specs.Judge.{frees_of, frees_from}
-use Rattle.points.proofs.Testing.{count_yes, count_no}
-use borrow.Author.Rules.{rules}
+use Rattle.judge.specs.Judge.{frees_of}
 use Rattle.points.proofs.frees.count_free.Given as goal
 
 abbrev pub invariant-loop-i : goal.invariant-loop-i

@@ -2,14 +2,12 @@
 use mathlib.Core.Path.{◌≡◌, sym, ◌∙◌}
 use mathlib.Core.Bool.{true}
 use native.Mathlib.Omega.{arith}
-use borrow.Author.Tests.{not-true, not-false}
 use lib.ListN.{length}
 use Rattle.fat.specs.Lists.{all_below}
 use Rattle.fat.proofs.Listing.{below_more}
 use Rattle.judge.specs.Judge.{frees_of}
 use Rattle.judge.proofs.Judging.{frees_few}
 use Rattle.points.proofs.Freeing.{frees_number, frees_range, frees_entries, frees_different}
-use borrow.Author.Rules.{rules}
 use Rattle.points.proofs.frees.same_frees.Goals as goal
 use Rattle.points.proofs.frees.same_frees.Goals.{Else-frees-count_free, Else-not-all_below}
 
@@ -44,7 +42,7 @@ returns-then-not-all_marked c =
 pub different-requires : goal.different-requires
 different-requires c =
     let passed = goal.at.different-requires c in
-    record {list_value = below_more _ _ _ c.requires.below (ranged passed.Else-not-all_below); list_len_bound = omega (arith, counted passed.Else-frees-count_free, frees_few (length c.args.fat.now) c.args.fat.now, c.requires.few) }
+    record { list_value = below_more _ _ _ c.requires.below (ranged passed.Else-not-all_below); list_len_bound = omega (arith, counted passed.Else-frees-count_free, frees_few (length c.args.fat.now) c.args.fat.now, c.requires.few) }
 
 pub returns : goal.returns
 returns c =

@@ -4,7 +4,6 @@ use mathlib.Core.Path.{refl}
 use native.Mathlib.Omega.{arith}
 use Rattle.points.specs.Parts.{Counting}
 use Rattle.points.proofs.Pointing.{counting_below, counting_more}
-use borrow.Author.Rules.{rules}
 use Rattle.points.proofs.points.count_four.Goals as goal
 use Rattle.points.proofs.points.count_four.Goals.{After-count_pointer, After-count_pointer-2, After-count_pointer-3}
 

@@ -2,7 +2,6 @@
 use mathlib.Core.Path.{refl}
 use native.Mathlib.Omega.{arith}
 use Rattle.points.proofs.Pointing.{counted_stored, counted_left}
-use borrow.Author.Rules.{rules}
 use Rattle.points.proofs.points.count_pointer.Goals as goal
 
 pub overflow_add-counts : goal.overflow_add-counts

@@ -1,10 +1,8 @@
-use Prim.Native.Nat.{◌+◌, ◌-◌, ◌*◌, ◌/◌, ◌≤◌}
+use Prim.Native.Nat.{◌+◌, ◌*◌, ◌/◌}
 use mathlib.Core.Path.{◌≡◌, refl, sym, ◌∙◌}
 use native.Mathlib.Omega.{arith}
 use lib.ListN.{length}
-use Rattle.points.specs.Parts.{Counting}
 use Rattle.points.proofs.Pointing.{counting_none}
-use borrow.Author.Rules.{rules}
 use Rattle.points.proofs.points.count_pointers.Goals as goal
 
 pub loop-q-init : goal.loop-q-init
@@ -18,7 +16,7 @@ overflow_mul-q c = omega (arith, c.loop-q.invariant.1, c.requires.few)
 pub count_four-requires : goal.count_four-requires
 count_four-requires c =
     let l = c.loop-q in
-    record {counting = l.invariant.2; j_in_bounds = omega (arith, l.invariant.1, c.loop-q-test.true) }
+    record { counting = l.invariant.2; j_in_bounds = omega (arith, l.invariant.1, c.loop-q-test.true) }
 
 pub loop-q-preserved : goal.loop-q-preserved
 loop-q-preserved c =
@@ -30,7 +28,7 @@ pub count_rest-requires : goal.count_rest-requires
 count_rest-requires c =
     let l = c.loop-q in
     let all : l.q ≡ length c.args.fat.now / 4 = omega (arith, l.invariant.0, l.invariant.1, c.loop-q-test.false) in
-    record {counting = rw all at l.invariant.2; from_in_bounds = omega arith }
+    record { counting = rw all at l.invariant.2; from_in_bounds = omega arith }
 
 pub shape_of-counts : goal.shape_of-counts
 shape_of-counts c =

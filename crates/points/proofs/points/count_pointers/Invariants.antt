@@ -1,11 +1,8 @@
 -- The invariant: the entries of the first q fours are counted; what is left after the last four is counted one by one.
-use Prim.Native.Nat.{◌+◌, ◌-◌, ◌*◌, ◌/◌, ◌≤◌}
-use mathlib.Core.Path.{◌≡◌, refl, sym, ◌∙◌}
-use native.Mathlib.Omega.{arith}
+use Prim.Native.Nat.{◌-◌, ◌*◌, ◌/◌, ◌≤◌}
+use mathlib.Core.Path.{◌≡◌}
 use lib.ListN.{length}
 use Rattle.points.specs.Parts.{Counting}
-use Rattle.points.proofs.Pointing.{counting_none}
-use borrow.Author.Rules.{rules}
 use Rattle.points.proofs.points.count_pointers.Given as goal
 
 abbrev pub invariant-loop-q : goal.invariant-loop-q

@@ -1,10 +1,6 @@
-use Prim.Native.Nat.{◌≤◌, ◌-◌}
 use mathlib.Core.Path.{refl, ◌∙◌, sym}
 use native.Mathlib.Omega.{arith}
-use lib.ListN.{length}
-use Rattle.points.specs.Parts.{Counting}
 use Rattle.points.proofs.Pointing.{counting_below, counting_more, counting_all}
-use borrow.Author.Rules.{rules}
 use Rattle.points.proofs.points.count_rest.Goals as goal
 
 pub loop-j-init : goal.loop-j-init

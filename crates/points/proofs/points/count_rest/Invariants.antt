@@ -1,11 +1,7 @@
 -- The invariant: the entries before j are counted.
 use Prim.Native.Nat.{◌≤◌, ◌-◌}
-use mathlib.Core.Path.{refl, ◌∙◌, sym}
-use native.Mathlib.Omega.{arith}
 use lib.ListN.{length}
 use Rattle.points.specs.Parts.{Counting}
-use Rattle.points.proofs.Pointing.{counting_below, counting_more, counting_all}
-use borrow.Author.Rules.{rules}
 use Rattle.points.proofs.points.count_rest.Given as goal
 
 abbrev pub invariant-loop-j : goal.invariant-loop-j

@@ -1,5 +1,4 @@
 -- The counts are those of the definition, so the sectors are right exactly when the entries and the marks are.
-use borrow.Author.Rules.{rules}
 use Rattle.points.proofs.Pointing.{counts_tell}
 use Rattle.points.proofs.points.points_right.Goals as goal
 

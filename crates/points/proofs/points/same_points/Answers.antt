@@ -1,7 +1,6 @@
 -- The front of the scratch, as long as the FAT, holds the counts.
 use mathlib.Core.Path.{sym}
 use lib.Seq.{length-take-le}
-use borrow.Author.Rules.{rules}
 use Rattle.points.proofs.points.same_points.Goals as goal
 
 pub slice_bounds-points_right-end-2 : goal.slice_bounds-points_right-end-2
@@ -9,7 +8,7 @@ slice_bounds-points_right-end-2 c = sym (length-take-le _ _ c.requires.below)
 
 pub points_right-requires : goal.points_right-requires
 points_right-requires c =
-    record {counts_lent = record { few = c.requires.few; each = length-take-le _ _ c.requires.below }; marks_len = c.requires.marked }
+    record { counts_lent = record { few = c.requires.few; each = length-take-le _ _ c.requires.below }; marks_len = c.requires.marked }
 
 pub returns : goal.returns
 returns c = c.points_right.ensures.0

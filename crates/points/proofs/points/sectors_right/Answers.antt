@@ -1,11 +1,8 @@
-use Prim.Native.Nat.{◌≤◌, ◌-◌}
 use mathlib.Core.Path.{◌≡◌, refl}
 use native.Mathlib.Omega.{arith}
-use lib.ListN.{length, get_or}
+use lib.ListN.{length}
 use Rattle.lists.specs.Lists.{every}
-use Rattle.points.specs.Parts.{sector_right}
 use Rattle.points.proofs.Testing.{flag_more}
-use borrow.Author.Rules.{rules}
 use Rattle.points.proofs.points.sectors_right.Goals as goal
 
 pub loop-i-init : goal.loop-i-init

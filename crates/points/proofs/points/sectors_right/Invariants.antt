@@ -1,12 +1,9 @@
 -- The invariant: the flag says whether the sectors below i are right.
 use Prim.Native.Nat.{◌≤◌, ◌-◌}
-use mathlib.Core.Path.{◌≡◌, refl}
-use native.Mathlib.Omega.{arith}
+use mathlib.Core.Path.{◌≡◌}
 use lib.ListN.{length, get_or}
 use Rattle.lists.specs.Lists.{every}
 use Rattle.points.specs.Parts.{sector_right}
-use Rattle.points.proofs.Testing.{flag_more}
-use borrow.Author.Rules.{rules}
 use Rattle.points.proofs.points.sectors_right.Given as goal
 
 abbrev pub invariant-loop-i : goal.invariant-loop-i

@@ -3,7 +3,6 @@ use Prim.Native.Nat.{◌+◌}
 use native.Mathlib.Omega.{arith}
 use Rattle.sectors.proofs.Laws.{scaled}
 use Rattle.sectors.proofs.New.{init_part, init_length}
-use borrow.Author.Rules.{rules}
 use Rattle.sectors.proofs.init.init_at.Goals as goal
 
 pub overflow_add-a : goal.overflow_add-a

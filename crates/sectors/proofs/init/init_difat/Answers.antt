@@ -2,7 +2,6 @@
 use Prim.Native.Nat.{ℕ, ◌-◌, ◌/◌}
 use mathlib.Core.Path.{ap}
 use Rattle.sectors.proofs.New.{init_difat}
-use borrow.Author.Rules.{rules}
 use Rattle.sectors.proofs.init.init_difat.Goals as goal
 
 pub returns : goal.returns

@@ -2,7 +2,6 @@
 use mathlib.Core.Path.{◌∙◌, sym, ap}
 use Rattle.sectors.specs.Init.{init_bytes}
 use Rattle.sectors.proofs.New.{init_zero, init_fat}
-use borrow.Author.Rules.{rules}
 use Rattle.sectors.proofs.init.init_sector.Goals as goal
 
 pub returns-in-Zero : goal.returns-in-Zero

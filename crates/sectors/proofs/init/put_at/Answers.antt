@@ -4,7 +4,6 @@ use native.Mathlib.Omega.{arith}
 use Rattle.words.proofs.Laws.{length_digits}
 use Rattle.sectors.proofs.Laws.{scaled}
 use Rattle.sectors.proofs.New.{put_part}
-use borrow.Author.Rules.{rules}
 use Rattle.sectors.proofs.init.put_at.Goals as goal
 
 pub overflow_add-a : goal.overflow_add-a

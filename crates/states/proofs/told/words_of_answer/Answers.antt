@@ -1,6 +1,5 @@
 -- Each case has its three words.
 use Rattle.states.proofs.Telling.{words_done}
-use borrow.Author.Rules.{rules}
 use Rattle.states.proofs.told.words_of_answer.Goals as goal
 
 pub returns-in-Done : goal.returns-in-Done
