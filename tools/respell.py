@@ -31,7 +31,9 @@ MERGED = {
 
 
 def snake(name):
-    return re.sub(r"(?<=[a-z0-9])(?=[A-Z])", "_", name).lower() if CAMEL.match(name) else name
+    """The name in snake case, each part between dashes for itself; getD is the library's get_or today."""
+    one = lambda part: re.sub(r"(?<=[a-z0-9])(?=[A-Z])", "_", part).lower() if CAMEL.match(part) else part
+    return "-".join("get_or" if part == "getD" else one(part) for part in name.split("-"))
 
 
 def bare(text):

@@ -12,7 +12,7 @@ use Rattle.lists.specs.Lists.{both, same_list}
 use Rattle.lists.specs.Rows.{row, refusal}
 use Rattle.lists.proofs.Cases.{true_or, not_both, both_true, both_left, both_right, same_test}
 use Rattle.lists.proofs.Rows.{stop, pass}
-use Rattle.lists.proofs.Splice.{sameList_true}
+use Rattle.lists.proofs.Splice.{same_list_true}
 use Rattle.lists.proofs.Tab.{length_tab}
 use Rattle.consts.specs.Consts.{max_regular}
 use Rattle.header.specs.declared.Header.{Header}
@@ -74,10 +74,10 @@ module _ (strict : Bool) (S : ℕ) (img : List ℕ) (h : Header) (n : ℕ) (fat 
       let t3 = both_right (same_list fats (fats_in S img h n)) _ t2 in
       record {
         rows = eqb-true _ _ (both_left (eqb (refusal (table_rows strict S img h n)) 0) _ t);
-        fat_is = sameList_true _ _ (both_left (same_list fat (open_fat S img h n)) _ t1);
-        fats_are = sameList_true _ _ (both_left (same_list fats (fats_in S img h n)) _ t2);
-        difats_are = sameList_true _ _ (both_left (same_list difats (difats_in S img h n)) _ t3);
-        marks_are = sameList_true _ _ (both_right (same_list difats (difats_in S img h n)) _ t3);
+        fat_is = same_list_true _ _ (both_left (same_list fat (open_fat S img h n)) _ t1);
+        fats_are = same_list_true _ _ (both_left (same_list fats (fats_in S img h n)) _ t2);
+        difats_are = same_list_true _ _ (both_left (same_list difats (difats_in S img h n)) _ t3);
+        marks_are = same_list_true _ _ (both_right (same_list difats (difats_in S img h n)) _ t3);
       }
 
   fronts_of : Fronts strict S img h n fat fats difats marks → tables_same strict S img h n fat fats difats marks ≡ true
@@ -132,7 +132,7 @@ module _ (strict : Bool) (S : ℕ) (img : List ℕ) (h : Header) (n : ℕ) (fat 
         (λ q.
         let o : points_once fat ≡ true = both_left (points_once fat) _ q in
         let q' = both_right (points_once fat) (both (same_list marks (marks_of (length fat) fat)) (none_dangles (length fat) fat)) q in
-        let m : marks ≡ marks_of (length fat) fat = sameList_true _ _ (both_left (same_list marks (marks_of (length fat) fat)) (none_dangles (length fat) fat) q') in
+        let m : marks ≡ marks_of (length fat) fat = same_list_true _ _ (both_left (same_list marks (marks_of (length fat) fat)) (none_dangles (length fat) fat) q') in
         let d : none_dangles (length fat) fat ≡ true = both_right (same_list marks (marks_of (length fat) fat)) _ q' in
         fronts_of record {
           rows = rows_all strict S img h n right (ap (λ (x : List ℕ). tail_free S img x n) (sym own_fats) ∙ t)
@@ -154,10 +154,10 @@ module _ (strict : Bool) (S : ℕ) (img : List ℕ) (h : Header) (n : ℕ) (fat 
         own = both_right (lists_right S img h n) (both (same_list difats (difats_in S img h n)) (same_list fats (fats_in S img h n))) l
 
         own_difats : difats ≡ difats_in S img h n
-        own_difats = sameList_true _ _ (both_left (same_list difats (difats_in S img h n)) (same_list fats (fats_in S img h n)) own)
+        own_difats = same_list_true _ _ (both_left (same_list difats (difats_in S img h n)) (same_list fats (fats_in S img h n)) own)
 
         own_fats : fats ≡ fats_in S img h n
-        own_fats = sameList_true _ _ (both_right (same_list difats (difats_in S img h n)) (same_list fats (fats_in S img h n)) own)
+        own_fats = same_list_true _ _ (both_right (same_list difats (difats_in S img h n)) (same_list fats (fats_in S img h n)) own)
 
         opened : fat ≡ open_fat S img h n
         opened = fat_forgiven strict n raw difats fats fat small wide long s ∙ sym (open_own own_fats own_difats)
@@ -169,8 +169,8 @@ lists_loaded S img h n fats difats l =
     let own : both (same_list difats (difats_in S img h n)) (same_list fats (fats_in S img h n)) ≡ true = both_right (lists_right S img h n) (both (same_list difats (difats_in S img h n)) (same_list fats (fats_in S img h n))) l in
     record {
       right = sym (both_left (lists_right S img h n) (both (same_list difats (difats_in S img h n)) (same_list fats (fats_in S img h n))) l);
-      difats_hold = λ t. sameList_true _ _ (both_left (same_list difats (difats_in S img h n)) (same_list fats (fats_in S img h n)) own);
-      fats_hold = λ t. sameList_true _ _ (both_right (same_list difats (difats_in S img h n)) (same_list fats (fats_in S img h n)) own);
+      difats_hold = λ t. same_list_true _ _ (both_left (same_list difats (difats_in S img h n)) (same_list fats (fats_in S img h n)) own);
+      fats_hold = λ t. same_list_true _ _ (both_right (same_list difats (difats_in S img h n)) (same_list fats (fats_in S img h n)) own);
     }
 
 pub tables_cover : (S : ℕ) (img : List ℕ) (h : Header) (n : ℕ) (fats difats : List ℕ) (len marks scratch : ℕ) → TablesLent S len n (length fats) (length difats) marks scratch

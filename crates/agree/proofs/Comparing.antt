@@ -11,7 +11,7 @@ use lib.ListN.{length, get_or, take, drop, replicate, length-drop, length-replic
 use lib.Seq.{ext_get_or, drop_at, take_all}
 use Rattle.lists.specs.Lists.{both, same_list}
 use Rattle.lists.proofs.Cases.{both_true, both_left, both_right, same_test, every_at, every_of, and_both}
-use Rattle.lists.proofs.Splice.{sameList_true, sameList_refl}
+use Rattle.lists.proofs.Splice.{same_list_true, same_list_refl}
 use Rattle.header.specs.Versions.{major_of}
 use Rattle.header.specs.declared.Version.{Version}
 use Rattle.header.specs.declared.Version.TheVariants.{V3, V4}
@@ -47,7 +47,7 @@ header_true a b t =
     let f6 = both_right (eqb a.minifats b.minifats) _ f5 in
     let f7 = both_right (eqb a.difat b.difat) _ f6 in
     same_header_lem (major_one _ _ (eqb-true _ _ (both_left _ _ f))) (eqb-true _ _ (both_left _ _ f1)) (eqb-true _ _ (both_left _ _ f2)) (eqb-true _ _ (both_left _ _ f3)) (eqb-true _ _ (both_left _ _ f4))
-    (eqb-true _ _ (both_left _ _ f5)) (eqb-true _ _ (both_left _ _ f6)) (eqb-true _ _ f7) (sameList_true _ _ (both_right (same_fields a b) _ t))
+    (eqb-true _ _ (both_left _ _ f5)) (eqb-true _ _ (both_left _ _ f6)) (eqb-true _ _ f7) (same_list_true _ _ (both_right (same_fields a b) _ t))
 
 header_refl : (a : Header) → same_header a a ≡ true
 unfolding same_header same_fields
@@ -55,7 +55,7 @@ header_refl a =
     both_true
     (both_true (eq-eqb (major_of a.version) (major_of a.version) refl) (both_true (eq-eqb a.dirs a.dirs refl) (both_true (eq-eqb a.fats a.fats refl) (both_true (eq-eqb a.dir a.dir refl)
     (both_true (eq-eqb a.minifat a.minifat refl) (both_true (eq-eqb a.minifats a.minifats refl) (both_true (eq-eqb a.difat a.difat refl) (eq-eqb a.difats a.difats refl))))))))
-    (sameList_refl a.list)
+    (same_list_refl a.list)
 
 pub header_exactly : (a b : Header) → same_header a b ≡ true ↔ a ≡ b
 header_exactly a b = (header_true a b, λ e. ap (same_header a) (sym e) ∙ header_refl a)
@@ -74,7 +74,7 @@ zeros_are xs m e =
     same_test (all_zero xs) (same_list xs (replicate m 0))
     (λ t. same_of xs (replicate m 0)
     (ext_get_or 0 xs (replicate m 0) (e ∙ sym (length-replicate {A = ℕ} m 0)) (λ i h. let l : i < m = omega arith in zero_at xs t i h ∙ sym (get_or-replicate m i 0 0 l))))
-    (λ t. zero_of xs (λ i h. let l : i < m = omega arith in ap (λ (l : List ℕ). get_or l i 0) (sameList_true xs (replicate m 0) t) ∙ get_or-replicate m i 0 0 l))
+    (λ t. zero_of xs (λ i h. let l : i < m = omega arith in ap (λ (l : List ℕ). get_or l i 0) (same_list_true xs (replicate m 0) t) ∙ get_or-replicate m i 0 0 l))
 
 -- a table holds a list and then zeros exactly when its front is the list and its rest is zero
 pub padded_rest : (t xs : List ℕ) (k : ℕ) → length xs ≡ k → t ≡ padded xs (length t) → drop k t ≡ replicate (length t - k) 0
@@ -92,10 +92,10 @@ pub holds_front : (t xs : List ℕ) (k : ℕ) → length xs ≡ k → holds t xs
 unfolding holds
 holds_front t xs k e =
     same_test (same_list t (padded xs (length t))) (both (same_list (take k t) xs) (all_zero (drop k t)))
-    (λ q. let l : t ≡ padded xs (length t) = sameList_true _ _ q in
+    (λ q. let l : t ≡ padded xs (length t) = same_list_true _ _ q in
     both_true (same_of _ _ (front_padded xs t k (length t) l e)) (zeros_are (drop k t) (length t - k) (length-drop k t) ∙ same_of _ _ (padded_rest t xs k e l)))
-    (λ q. same_of _ _ (padded_of t xs k e (sameList_true _ _ (both_left _ (all_zero (drop k t)) q))
-    (sameList_true _ _ (sym (zeros_are (drop k t) (length t - k) (length-drop k t)) ∙ both_right (same_list (take k t) xs) _ q))))
+    (λ q. same_of _ _ (padded_of t xs k e (same_list_true _ _ (both_left _ (all_zero (drop k t)) q))
+    (same_list_true _ _ (sym (zeros_are (drop k t) (length t - k) (length-drop k t)) ∙ both_right (same_list (take k t) xs) _ q))))
 
 -- the eight numbers of two headers, tested one by one
 pub fields_same : (a b : Header) (v w : ℕ) → v ≡ major_of a.version → w ≡ major_of b.version

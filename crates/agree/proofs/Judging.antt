@@ -13,13 +13,13 @@ use Rattle.lists.specs.Lists.{choose, both, same_list}
 use Rattle.lists.specs.Rows.{row, refusal}
 use Rattle.lists.proofs.Cases.{same_or, below_or, true_or, not_both, both_true, both_left, both_right, same_test}
 use Rattle.lists.proofs.Rows.{stop}
-use Rattle.lists.proofs.Tab.{length_tab, getD_tab}
-use Rattle.lists.proofs.Splice.{sameList_true}
+use Rattle.lists.proofs.Tab.{length_tab, get_or_tab}
+use Rattle.lists.proofs.Splice.{same_list_true}
 use Rattle.consts.specs.Consts.{max_regular, invalid_sector, end_of_chain, difat_sector, fat_sector}
 use Rattle.judge.specs.Judge.{all_marked, marked_fat, regular, forgiven, pointed, wrong_at, first_wrong, forgiven_fat, none_dangles, fat_rows}
 use Rattle.judge.proofs.Judging.{pointed_by, pointer_of, forgiven_low, forgiven_kind, forgiven_high}
 use Rattle.judge.proofs.Rows.{fat_rest}
-use Rattle.judge.proofs.Marking.{length_markedFat, markedFat_marked}
+use Rattle.judge.proofs.Marking.{length_marked_fat, marked_fat_marked}
 use Rattle.points.specs.Parts.{points_once}
 use Rattle.points.proofs.Pointing.{Once, points_exactly}
 use Rattle.points.proofs.Testing.{same_of}
@@ -95,7 +95,7 @@ module _ (strict : Bool) (n : ℕ) (fat : List ℕ) (small : n ≤ max_regular) 
 
   at_kept : (i : ℕ) → i < n → get_or kept i 0 ≡ forgiven n (get_or fat i 0)
   unfolding forgiven_fat
-  at_kept i h = getD_tab (λ k. forgiven n (get_or fat k 0)) n i 0 h
+  at_kept i h = get_or_tab (λ k. forgiven n (get_or fat k 0)) n i 0 h
 
   length_kept : length kept ≡ n
   unfolding forgiven_fat
@@ -236,15 +236,15 @@ module _ (raw difats fats fat : List ℕ) where
       rest = both_right (both (all_marked raw difats difat_sector) (all_marked raw fats fat_sector)) _ tests
 
       marks : marked_fat raw difats fats ≡ raw
-      marks = markedFat_marked raw difats fats listed
+      marks = marked_fat_marked raw difats fats listed
 
       own : fat ≡ raw
-      own = sameList_true fat (marked_fat raw difats fats) (both_left _ (same_list fat (forgiven_fat (length fat) (marked_fat raw difats fats))) rest) ∙ marks
+      own = same_list_true fat (marked_fat raw difats fats) (both_left _ (same_list fat (forgiven_fat (length fat) (marked_fat raw difats fats))) rest) ∙ marks
 
 -- and the other way, where the FAT is the bytes' own
 strict_own : (fat difats fats : List ℕ) → same_list fat (forgiven_fat (length fat) fat) ≡ true → both (all_marked fat difats difat_sector) (all_marked fat fats fat_sector) ≡ true → fat_same true fat difats fats fat ≡ true
 strict_own fat difats fats f l =
-    let marks : marked_fat fat difats fats ≡ fat = markedFat_marked fat difats fats l in
+    let marks : marked_fat fat difats fats ≡ fat = marked_fat_marked fat difats fats l in
     strict_tests fat difats fats fat ∙ both_true l (both_true (same_of fat _ (sym marks)) (ap (λ (m : List ℕ). same_list fat (forgiven_fat (length fat) m)) marks ∙ f))
 
 strict_same_lem : (raw difats fats fat : List ℕ) → strict_same raw difats fats fat ≡ true → fat_same true raw difats fats fat ≡ true
@@ -252,7 +252,7 @@ unfolding strict_same
 strict_same_lem raw difats fats fat t =
     let listed : both (all_marked fat difats difat_sector) (all_marked fat fats fat_sector) ≡ true = both_right (both (same_list fat raw) (same_list fat (forgiven_fat (length fat) fat))) _ t in
     let kept : both (same_list fat raw) (same_list fat (forgiven_fat (length fat) fat)) ≡ true = both_left _ (both (all_marked fat difats difat_sector) (all_marked fat fats fat_sector)) t in
-    let own : fat ≡ raw = sameList_true fat raw (both_left _ (same_list fat (forgiven_fat (length fat) fat)) kept) in
+    let own : fat ≡ raw = same_list_true fat raw (both_left _ (same_list fat (forgiven_fat (length fat) fat)) kept) in
     ap (λ (m : List ℕ). fat_same true m difats fats fat) (sym own) ∙ strict_own fat difats fats (both_right (same_list fat raw) _ kept) listed
 
 pub fat_strict : (strict r : Bool) (raw difats fats fat : List ℕ) → strict ≡ true → r ≡ strict_same raw difats fats fat → r ≡ fat_same strict raw difats fats fat
@@ -285,7 +285,7 @@ module _ (strict : Bool) (n : ℕ) (raw difats fats fat : List ℕ) (small : n �
   M = marked_fat raw difats fats
 
   long_marked : length M ≡ n
-  long_marked = length_markedFat raw difats fats ∙ wide
+  long_marked = length_marked_fat raw difats fats ∙ wide
 
   pub same_fat : fat ≡ forgiven_fat n M → Passed strict n raw difats fats → fat_same strict raw difats fats fat ≡ true
   unfolding fat_same
@@ -300,7 +300,7 @@ module _ (strict : Bool) (n : ℕ) (raw difats fats fat : List ℕ) (small : n �
   pub fat_forgiven : fat_same strict raw difats fats fat ≡ true → fat ≡ forgiven_fat n M
   unfolding fat_same
   fat_forgiven t =
-      sameList_true _ _ (both_right (not (both strict (not (same_list fat M)))) _ (both_right (not (both strict (not (listed_marked raw difats fats)))) _ t))
+      same_list_true _ _ (both_right (not (both strict (not (same_list fat M)))) _ (both_right (not (both strict (not (listed_marked raw difats fats)))) _ t))
       ∙ ap (λ (k : ℕ). forgiven_fat k M) long
 
   fat_stays : fat_same strict raw difats fats fat ≡ true → strict ≡ true → fat ≡ M
@@ -308,7 +308,7 @@ module _ (strict : Bool) (n : ℕ) (raw difats fats fat : List ℕ) (small : n �
   fat_stays t s =
       let k : not (both strict (not (same_list fat M))) ≡ true =
       both_left (not (both strict (not (same_list fat M)))) (same_list fat (forgiven_fat (length fat) M)) (both_right (not (both strict (not (listed_marked raw difats fats)))) _ t) in
-      sameList_true _ _ (strictly (same_list fat M) (rw s at k))
+      same_list_true _ _ (strictly (same_list fat M) (rw s at k))
     where
       strictly : (b : Bool) → not (both true (not b)) ≡ true → b ≡ true
       strictly true q = refl

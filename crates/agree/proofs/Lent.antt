@@ -11,14 +11,14 @@ use lib.Seq.{length-take-le}
 use Rattle.lists.specs.Lists.{both, same_list}
 use Rattle.lists.specs.Rows.{refusal}
 use Rattle.lists.proofs.Cases.{not_both, both_true, both_left, both_right, same_test}
-use Rattle.lists.proofs.Splice.{sameList_true}
+use Rattle.lists.proofs.Splice.{same_list_true}
 use Rattle.header.specs.declared.Header.{Header}
 use Rattle.fat.specs.Lists.{fat_count, difat_count, difats_in, fats_in}
 use Rattle.fat.specs.Loaded.{Counted}
 use Rattle.judge.specs.Judge.{marks_of, frees_of}
 use Rattle.alloc.specs.Opening.{Tables, open_fat, open_tables, table_rows}
 use Rattle.alloc.specs.Opened.{Lent}
-use Rattle.alloc.proofs.Filled.{length_openFat, length_marks, length_fats, length_difats, counted_same}
+use Rattle.alloc.proofs.Filled.{length_open_fat, length_marks, length_fats, length_difats, counted_same}
 use Rattle.points.specs.Frees.{any_order}
 use Rattle.points.specs.Parts.{frees_same}
 use Rattle.points.proofs.Testing.{same_of}
@@ -65,7 +65,7 @@ module _ (S : ℕ) (img : List ℕ) (h : Header) (n free : ℕ) (t : Tables) whe
 front_of : (t xs : List ℕ) (k : ℕ) → length xs ≡ k → holds t xs ≡ true → (take k t ≡ xs) × (all_zero (drop k t) ≡ true)
 front_of t xs k e q =
     let b : both (same_list (take k t) xs) (all_zero (drop k t)) ≡ true = sym (holds_front t xs k e) ∙ q in
-    (sameList_true _ _ (both_left (same_list (take k t) xs) (all_zero (drop k t)) b), both_right (same_list (take k t) xs) (all_zero (drop k t)) b)
+    (same_list_true _ _ (both_left (same_list (take k t) xs) (all_zero (drop k t)) b), both_right (same_list (take k t) xs) (all_zero (drop k t)) b)
 
 of_front : (t xs : List ℕ) (k : ℕ) → length xs ≡ k → take k t ≡ xs → all_zero (drop k t) ≡ true → holds t xs ≡ true
 of_front t xs k e f z = holds_front t xs k e ∙ both_true (same_of _ _ f) z
@@ -89,7 +89,7 @@ module _ (strict : Bool) (S : ℕ) (img : List ℕ) (h : Header) (n k d free : �
       let w = wholes_true S img h n free t (both_right rows held q) in
       record {
         rows = eqb-true _ _ (both_left rows held q);
-        fat_is = (front_of t.fat _ n (length_openFat S img h n) w.fat).0;
+        fat_is = (front_of t.fat _ n (length_open_fat S img h n) w.fat).0;
         fats_are = (front_of t.fats _ k k_fats w.fats).0;
         difats_are = (front_of t.difats _ d d_difats w.difats).0;
         marks_are = (front_of t.marks _ n (length_marks n (open_fat S img h n)) w.marks).0;
@@ -102,7 +102,7 @@ module _ (strict : Bool) (S : ℕ) (img : List ℕ) (h : Header) (n k d free : �
       (λ q.
       let w = wholes_true S img h n free t (both_right rows held q) in
       not_both
-      (both_true (front_of t.fat _ n (length_openFat S img h n) w.fat).1
+      (both_true (front_of t.fat _ n (length_open_fat S img h n) w.fat).1
       (both_true (front_of t.fats _ k k_fats w.fats).1
       (both_true (front_of t.difats _ d d_difats w.difats).1
       (both_true (zeros_are (drop free t.frees) (length t.frees - free) (length-drop free t.frees) ∙ w.rest)
@@ -127,7 +127,7 @@ module _ (strict : Bool) (S : ℕ) (img : List ℕ) (h : Header) (n k d free : �
       by_open : frees_same (take n t.fat) (take free t.frees) ≡ both (eqb free (length (frees_of n (open_fat S img h n)))) (any_order n (open_fat S img h n) (take free t.frees))
       unfolding frees_same
       by_open =
-          rw (own.fat_is, length_openFat S img h n)
+          rw (own.fat_is, length_open_fat S img h n)
           (ap (λ (m : ℕ). both (eqb m (length (frees_of n (open_fat S img h n)))) (any_order n (open_fat S img h n) (take free t.frees))) (length-take-le free t.frees enough))
 
       gathered : both (eqb free (length (frees_of n (open_fat S img h n)))) (any_order n (open_fat S img h n) (take free t.frees)) ≡ true → Wholes S img h n free t
@@ -137,7 +137,7 @@ module _ (strict : Bool) (S : ℕ) (img : List ℕ) (h : Header) (n k d free : �
           let z2 = both_right (all_zero (drop k t.fats)) _ z1 in
           let z3 = both_right (all_zero (drop d t.difats)) _ z2 in
           record {
-            fat = of_front t.fat _ n (length_openFat S img h n) own.fat_is (both_left (all_zero (drop n t.fat)) _ zero);
+            fat = of_front t.fat _ n (length_open_fat S img h n) own.fat_is (both_left (all_zero (drop n t.fat)) _ zero);
             fats = of_front t.fats _ k k_fats own.fats_are (both_left (all_zero (drop k t.fats)) _ z1);
             difats = of_front t.difats _ d d_difats own.difats_are (both_left (all_zero (drop d t.difats)) _ z2);
             marks = of_front t.marks _ n (length_marks n (open_fat S img h n)) own.marks_are (both_right (all_zero (drop free t.frees)) _ z3);

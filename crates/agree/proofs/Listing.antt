@@ -9,7 +9,7 @@ use lib.ListN.{length, take, drop, length-append, length-drop}
 use lib.Seq.{length-take-le}
 use Rattle.lists.specs.Lists.{both, same_list}
 use Rattle.lists.proofs.Cases.{true_or, not_both, both_of_true, both_left, both_right, both_false_left}
-use Rattle.lists.proofs.Splice.{sameList_true}
+use Rattle.lists.proofs.Splice.{same_list_true}
 use Rattle.header.specs.declared.Header.{Header}
 use Rattle.fat.specs.Lists.{difat_count, difat_at, difats_of, fats_of, difats_in, fats_in, all_below, different, ends, counts_right, chain_right, rest_free, ids_right, fats_right}
 use Rattle.fat.specs.Loaded.{ChainListed, Places, PlacesListed}
@@ -61,7 +61,7 @@ module _ (S : ℕ) (img : List ℕ) (n first d : ℕ) (difats : List ℕ) where
         split false b e s q = refl
 
     chain_is : r ≡ true → difats ≡ difats_of S img first d
-    chain_is t = sameList_true _ _ (both_right (both low ended) same (sym listed ∙ t))
+    chain_is t = same_list_true _ _ (both_right (both low ended) same (sym listed ∙ t))
 
     chain_ended : r ≡ true → both low ended ≡ true
     chain_ended t = both_left (both low ended) same (sym listed ∙ t)
@@ -109,7 +109,7 @@ module _ (S : ℕ) (img : List ℕ) (n : ℕ) (list difats : List ℕ) (k : ℕ)
         split false e b s q = refl
 
     fats_are : r ≡ true → fats ≡ fats_of S img list difats k
-    fats_are t = sameList_true _ _ (both_right under equal (sym listed ∙ t))
+    fats_are t = same_list_true _ _ (both_right under equal (sym listed ∙ t))
 
     pub fats_low : r ≡ true → all_below n fats ≡ true
     fats_low t = ap (all_below n) (fats_are t) ∙ both_left under equal (sym listed ∙ t)
@@ -178,7 +178,7 @@ module _ (S : ℕ) (img : List ℕ) (h : Header) (n : ℕ) (fats difats : List �
         split true true true true e q = absurd (not_both refl q)
 
     chain_same : r ≡ true → difats ≡ difats_of S img h.difat (length difats)
-    chain_same t = sameList_true _ _ (both_right (chain_right S img h.difat n (length difats)) _ (sym told ∙ t))
+    chain_same t = same_list_true _ _ (both_right (chain_right S img h.difat n (length difats)) _ (sym told ∙ t))
 
     chain_right_lem : r ≡ true → chain_right S img h.difat n (length difats) ≡ true
     chain_right_lem t = both_left _ (same_list difats (difats_of S img h.difat (length difats))) (sym told ∙ t)

@@ -11,7 +11,7 @@ use lib.ListN.{length, get_or, take, drop, replicate, length-append, length-drop
 use lib.Seq.{ext_get_or, get_or-drop}
 use Rattle.lists.specs.Rows.{refusal}
 use Rattle.lists.proofs.Cases.{below_or, same_or, both_true, both_left, both_right, every_at, every_of}
-use Rattle.lists.proofs.Splice.{sameList_true}
+use Rattle.lists.proofs.Splice.{same_list_true}
 use Rattle.header.specs.Versions.{length_of}
 use Rattle.header.specs.Read.{header_of}
 use Rattle.header.specs.declared.Header.{Header}
@@ -24,7 +24,7 @@ use Rattle.judge.proofs.Judging.{frees_exactly, frees_ascend, frees_few}
 use Rattle.alloc.specs.Opening.{Tables, first_rows, open_no, open_tables, open_fat, shortest, left_in, padded}
 use Rattle.alloc.specs.Opened.{tables_left, Lent}
 use Rattle.alloc.proofs.Opens.{open_first, opens_lent}
-use Rattle.alloc.proofs.Filled.{front_padded, length_openFat, length_marks, length_fats, length_difats}
+use Rattle.alloc.proofs.Filled.{front_padded, length_open_fat, length_marks, length_fats, length_difats}
 use Rattle.points.specs.Frees.{occurs, times_free, any_order, FreesOnce}
 use Rattle.points.proofs.Freeing.{occurs_some, occurs_place, order_exactly}
 use Rattle.points.proofs.Testing.{same_of}
@@ -52,13 +52,13 @@ module _ (S : ℕ) (img : List ℕ) (h : Header) (n free : ℕ) (t : Tables) whe
   unfolding open_tables holds
   held_of w =
       record {
-        fat = sameList_true _ _ w.fat;
-        fats = sameList_true _ _ w.fats;
-        difats = sameList_true _ _ w.difats;
-        marks = sameList_true _ _ w.marks;
+        fat = same_list_true _ _ w.fat;
+        fats = same_list_true _ _ w.fats;
+        difats = same_list_true _ _ w.difats;
+        marks = same_list_true _ _ w.marks;
         count = w.count;
         frees = (order_exactly n (open_fat S img h n) (take free t.frees)).0 w.order;
-        rest = zeros_past t.frees free (sameList_true _ _ w.rest);
+        rest = zeros_past t.frees free (same_list_true _ _ w.rest);
       }
 
   of_held : Held n (open_tables S img h n) free t → Wholes S img h n free t
@@ -184,7 +184,7 @@ module _ (m : Validation) (img : List ℕ) (used : ℕ) (t : Tables) (open_is : 
   lent = opens_lent m img used t early
 
   fat_fits : length (open_fat size img (header_of img) count) ≤ length t.fat
-  fat_fits = omega (arith, length_openFat size img (header_of img) count, lent.fat_long)
+  fat_fits = omega (arith, length_open_fat size img (header_of img) count, lent.fat_long)
 
   marks_fit : length (marks_of count (open_fat size img (header_of img) count)) ≤ length t.marks
   marks_fit = omega (arith, length_marks count (open_fat size img (header_of img) count), lent.marks_long)

@@ -39,9 +39,9 @@ unfolding padded
 put_front xs ys front n e f l = rw (f, zero_rest xs n e, l)
 
 -- the lengths of what is loaded
-pub length_openFat : (S : ℕ) (img : List ℕ) (h : Header) (n : ℕ) → length (open_fat S img h n) ≡ n
+pub length_open_fat : (S : ℕ) (img : List ℕ) (h : Header) (n : ℕ) → length (open_fat S img h n) ≡ n
 unfolding open_fat forgiven_fat
-length_openFat S img h n = length_tab _ n
+length_open_fat S img h n = length_tab _ n
 
 pub length_marks : (n : ℕ) (fat : List ℕ) → length (marks_of n fat) ≡ n
 unfolding marks_of
@@ -67,7 +67,7 @@ filled strict S img h n n' k d r len scratch fat fats difats marks fat' fats' di
     let l : TablesLoaded strict S img h n r fat' fats' difats' marks' = rw e at t in
     record {
       number = l.number;
-      fat_holds = λ q. put_front fat _ fat' n z.fat_zero (l.fat_holds q) (length_openFat S img h n);
+      fat_holds = λ q. put_front fat _ fat' n z.fat_zero (l.fat_holds q) (length_open_fat S img h n);
       fats_hold = λ q. put_front fats _ fats' k z.fats_zero (l.fats_hold q) (length_fats S img h n ∙ sym ek);
       difats_hold = λ q. put_front difats _ difats' d z.difats_zero (l.difats_hold q) (length_difats S img h n ∙ sym (ed ∙ ap (difat_count S) ek));
       marks_hold = λ q. put_front marks _ marks' n z.marks_zero (l.marks_hold q) (length_marks n (open_fat S img h n));
@@ -91,8 +91,8 @@ free_listed : (S : ℕ) (img : List ℕ) (h : Header) (n a e r : ℕ) (fat zeros
     → (r ≡ length (frees_of n (open_fat S img h n))) × (frees ≡ padded (frees_of n (open_fat S img h n)) e)
 unfolding padded
 free_listed S img h n a e r fat zeros frees ef ez l =
-    let front : take n fat ≡ open_fat S img h n = front_padded (open_fat S img h n) fat n a ef (length_openFat S img h n) in
-    let count : length (take n fat) ≡ n = ap length front ∙ length_openFat S img h n in
+    let front : take n fat ≡ open_fat S img h n = front_padded (open_fat S img h n) fat n a ef (length_open_fat S img h n) in
+    let count : length (take n fat) ≡ n = ap length front ∙ length_open_fat S img h n in
     let list : frees_of (length (take n fat)) (take n fat) ≡ frees_of n (open_fat S img h n) = ap (λ (k : ℕ). frees_of k (take n fat)) count ∙ ap (frees_of n) front in
     let number : r ≡ length (frees_of n (open_fat S img h n)) = l.number ∙ ap length list in
     let zl : length zeros ≡ e = ap length ez ∙ length-replicate {A = ℕ} e 0 in (

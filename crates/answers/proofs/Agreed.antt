@@ -1,7 +1,7 @@
 -- From what the library says of a call to its agreement with the record. Assumes nothing.
 use Rattle.std.proofs.Common.{◌≡◌, ℕ, ◌+◌, ◌-◌, ◌*◌, ◌%◌, ◌^◌, true, eqb, List, length, take, drop, sym, ap, ◌∙◌, ap₂, arith}
 use Rattle.lists.specs.Lists.{choose, part, same_list, splice}
-use Rattle.lists.proofs.Splice.{sameList_true}
+use Rattle.lists.proofs.Splice.{same_list_true}
 use Rattle.words.specs.Words.{le}
 use Rattle.header.specs.Versions.{numbered_of}
 use Rattle.header.specs.Read.{read_number, ReadSays}
@@ -44,7 +44,7 @@ pub written_agrees : (h : Header) (n : ℕ) {buf left bytes : List ℕ} {verdict
 unfolding after
 written_agrees h n {left = left} {bytes = bytes} e l says k s = (
   sym (says.number ∙ ap (write_no h) l) ∙ k,
-  sym (says.buffer ∙ ap₂ (λ (q : ℕ) (d : List ℕ). choose (eqb (write_no h q) 0) (splice d 0 (header_bytes h)) d) l e) ∙ sameList_true left bytes s,
+  sym (says.buffer ∙ ap₂ (λ (q : ℕ) (d : List ℕ). choose (eqb (write_no h q) 0) (splice d 0 (header_bytes h)) d) l e) ∙ same_list_true left bytes s,
 )
 
 -- a writing that gave the number and the bytes of the record

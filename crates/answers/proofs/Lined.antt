@@ -3,7 +3,7 @@ use Rattle.std.proofs.Common.{◌≡◌, ℕ, ◌+◌, ◌<◌, ◌≤◌, true,
 use lib.ListN.{get_or-eq_default}
 use Rattle.lists.specs.Lists.{part, same_list}
 use Rattle.lists.proofs.Cases.{below_or}
-use Rattle.lists.proofs.Splice.{sameList_true}
+use Rattle.lists.proofs.Splice.{same_list_true}
 use Rattle.consts.specs.Pretty.{prettify_of, item_at}
 use Rattle.texts.specs.Text.{text_of, written}
 use Rattle.consts.specs.declared.Sector.{Sector}
@@ -24,7 +24,7 @@ pub line_stands : (held bytes : List ℕ) (at len : ℕ) {there : List ℕ} → 
 line_stands held bytes at len h t s f q e =
     let all : length (take len bytes) ≡ len = length-take-le len bytes h in
     let place : at + len + 1 ≡ q = cc in
-    record { bytes = rw all (sym (sameList_true _ _ s ∙ t)); feed = rw all f; past = rw all (sym place) }
+    record { bytes = rw all (sym (same_list_true _ _ s ∙ t)); feed = rw all f; past = rw all (sym place) }
 
 -- one zero more
 pub zeros_more : (held : List ℕ) (at i : ℕ) → ((k : ℕ) → at ≤ k → k < i → get_or held k 0 ≡ 0) → get_or held i 0 ≡ 0

@@ -15,7 +15,7 @@ use Rattle.sectors.specs.Sectors.{start_of, sector_of, per_sector}
 use Rattle.sectors.specs.Init.{init_bytes}
 use Rattle.sectors.specs.declared.init.SectorInit.{SectorInit}
 use Rattle.sectors.specs.declared.init.SectorInit.TheVariants.{Zero, Fat, Difat}
-use Rattle.header.proofs.RoundTrip.{listBytes_below}
+use Rattle.header.proofs.RoundTrip.{list_bytes_below}
 use Rattle.fat.specs.Lists.{ceil}
 use Rattle.chain.specs.Bytes.{chain_bytes}
 use Rattle.stores.specs.Stores.{put_chain, write_bytes, tail_of, zero_tail}
@@ -37,8 +37,8 @@ no_bytes = record { each = λ i l. absurd (omega arith) }
 init_bytes_lem : (S : ℕ) (init : SectorInit) → Below 256 (init_bytes S init)
 unfolding init_bytes
 init_bytes_lem S Zero = below_replicate 256 S 0 (omega arith)
-init_bytes_lem S Fat = listBytes_below (replicate (per_sector S) free_sector)
-init_bytes_lem S Difat = listBytes_below (replicate (per_sector S - 1) free_sector ++ (end_of_chain ∷ []))
+init_bytes_lem S Fat = list_bytes_below (replicate (per_sector S) free_sector)
+init_bytes_lem S Difat = list_bytes_below (replicate (per_sector S - 1) free_sector ++ (end_of_chain ∷ []))
 
 chain_bytes_lem : (S : ℕ) (img ids : List ℕ) → Below 256 img → Below 256 (chain_bytes S img ids)
 unfolding chain_bytes flat_map sector_of part

@@ -25,17 +25,17 @@ module _ (S : ℕ) (f : ℕ → List ℕ) where
       length-append (f i) (flat_map f is)
       ∙ omega (arith, h 0 (omega arith), length_joined is (λ j l. h (suc j) (omega arith)), mul-suc S (length is))
 
-  getD_joined : (ids : List ℕ) → Each ids → (q x : ℕ) → q < length ids → x < S → get_or (flat_map f ids) (S * q + x) 0 ≡ get_or (f (get_or ids q 0)) x 0
+  get_or_joined : (ids : List ℕ) → Each ids → (q x : ℕ) → q < length ids → x < S → get_or (flat_map f ids) (S * q + x) 0 ≡ get_or (f (get_or ids q 0)) x 0
   unfolding flat_map
-  getD_joined [] h q x hq hx = absurd (omega arith)
-  getD_joined (i ∷ is) h zero x hq hx =
+  get_or_joined [] h q x hq hx = absurd (omega arith)
+  get_or_joined (i ∷ is) h zero x hq hx =
       let first : S * 0 + x ≡ x = omega (arith, mul-zero S) in
       ap (λ (k : ℕ). get_or (f i ++ flat_map f is) k 0) first ∙ get_or-append (f i) (flat_map f is) 0 x (omega (arith, h 0 (omega arith)))
-  getD_joined (i ∷ is) h (suc q) x hq hx =
+  get_or_joined (i ∷ is) h (suc q) x hq hx =
       let later : S * suc q + x ≡ length (f i) + (S * q + x) = omega (arith, mul-suc S q, h 0 (omega arith)) in
       ap (λ (k : ℕ). get_or (f i ++ flat_map f is) k 0) later
       ∙ get_or-append-add (f i) (flat_map f is) (S * q + x) 0
-      ∙ getD_joined is (λ j l. h (suc j) (omega arith)) q x (omega arith) hx
+      ∙ get_or_joined is (λ j l. h (suc j) (omega arith)) q x (omega arith) hx
 
 -- the bytes of a chain whose sectors lie in the image
 module _ (S : ℕ) (img ids : List ℕ) (l : Lies S (length img) ids) where
@@ -54,7 +54,7 @@ module _ (S : ℕ) (img ids : List ℕ) (l : Lies S (length img) ids) where
 
   pub chain_in : (q x : ℕ) → q < length ids → x < S → get_or (chain_bytes S img ids) (S * q + x) 0 ≡ get_or (sector_of S img (get_or ids q 0)) x 0
   unfolding chain_bytes
-  chain_in = getD_joined S (sector_of S img) ids sector_long
+  chain_in = get_or_joined S (sector_of S img) ids sector_long
 
   -- byte o of the chain is byte o % S of its o / S-th sector
   pub chain_at : (o : ℕ) → o < S * length ids → get_or (chain_bytes S img ids) o 0 ≡ get_or (sector_of S img (get_or ids (o / S) 0)) (o % S) 0

@@ -7,7 +7,7 @@ use native.Mathlib.Nat.{mod-lt}
 use borrow.Rule.Slice.PartMut.{put_mid}
 use lib.ListN.{length, get_or, take, drop}
 use Rattle.lists.specs.Lists.{splice, part}
-use Rattle.lists.proofs.Splice.{putMid_splice}
+use Rattle.lists.proofs.Splice.{put_mid_splice}
 use Rattle.sectors.specs.Sectors.{start_of}
 use Rattle.sectors.proofs.Laws.{scaled}
 use Rattle.chain.specs.Bytes.{Lies}
@@ -43,4 +43,4 @@ unfolding part
 lent_run xs a k = let width : a + k - a ≡ k = omega arith in rw width
 
 pub back_run : (xs : List ℕ) (a k : ℕ) (run : List ℕ) → length run ≡ k → put_mid a (a + k - a) xs run ≡ splice xs a run
-back_run xs a k run e = putMid_splice a (a + k - a) xs run (omega (arith, e))
+back_run xs a k run e = put_mid_splice a (a + k - a) xs run (omega (arith, e))

@@ -81,9 +81,9 @@ module _ (S R m : ℕ) (c : Chain) (f : FitsMore S R (suc m) c) (r : Roles S R c
       (λ e. r1.ids_fats c.count p (omega (arith, one_count S c)) l (last_id ∙ sym e)) small)
       ∙ sym (get_or-replicate S x 0 0 small))
 
-  one_idsOf : ids_of (extend_one S c) ≡ ids_of c ++ (taken_id S c.hand ∷ [])
+  one_ids_of : ids_of (extend_one S c) ≡ ids_of c ++ (taken_id S c.hand ∷ [])
   unfolding ids_of extend_one
-  one_idsOf = take-suc-set c.ids c.count (taken_id S c.hand) (more_place f)
+  one_ids_of = take-suc-set c.ids c.count (taken_id S c.hand) (more_place f)
 
   pub one_bytes : chain_bytes S (extend_one S c).hand.disk.image (ids_of (extend_one S c)) ≡ chain_bytes S c.hand.disk.image (ids_of c) ++ replicate S 0
   one_bytes =
@@ -92,7 +92,7 @@ module _ (S R m : ℕ) (c : Chain) (f : FitsMore S R (suc m) c) (r : Roles S R c
       = chain_stays S c.hand.disk.image img (ids_of c)
       (λ j l. let low : j < c.count = rw (chain_listed S R c r.fits) at l in
       rw (chain_id S R c r.fits j low) (one_sector_stays j low)) in
-      ap (chain_bytes S img) one_idsOf
+      ap (chain_bytes S img) one_ids_of
       ∙ chain_append S img (ids_of c) (taken_id S c.hand ∷ [])
       ∙ ap (λ (u : List ℕ). u ++ chain_bytes S img (taken_id S c.hand ∷ [])) old
       ∙ ap (λ (u : List ℕ). chain_bytes S c.hand.disk.image (ids_of c) ++ u) (chain_single S img (taken_id S c.hand) ∙ one_sector_zero)

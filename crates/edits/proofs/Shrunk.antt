@@ -17,7 +17,7 @@ use Rattle.hand.specs.Hand.{Hand, Chain, free_sector_of, free_run}
 use Rattle.hand.specs.Fits.{FitsHand, FitsFrees}
 use Rattle.moves.specs.Change.{cut, shrink, ids_of, FitsShrink}
 use Rattle.hand.proofs.Freeing.{free_none, free_more, frees_more}
-use Rattle.moves.proofs.Shrinking.{shrink_none, shrink_some, shrink_last, shrink_frees, shrink_count, shrink_ids, shrink_idsOf, shrink_fits, shrink_long, shrink_place}
+use Rattle.moves.proofs.Shrinking.{shrink_none, shrink_some, shrink_last, shrink_frees, shrink_count, shrink_ids, shrink_ids_of, shrink_fits, shrink_long, shrink_place}
 use Rattle.moves.proofs.Changing.{chain_lies}
 use Rattle.edits.specs.Roles.{Roles}
 use Rattle.edits.specs.Untouched.{Unlisted, Other}
@@ -77,7 +77,7 @@ module _ (S R m : ℕ) (c : Chain) (f : FitsShrink S R m c) where
     unfolding ids_of
     shrunk_bytes =
         let g = shrink_fits S R m c f in
-        let ids : ids_of (shrink S c m) ≡ take m c.ids = shrink_idsOf S R m c f in
+        let ids : ids_of (shrink S c m) ≡ take m c.ids = shrink_ids_of S R m c f in
         let fewer : take m c.ids ≡ take m (ids_of c) = sym (take-take m c.count c.ids f.within) in
         let long : length (take m c.ids) ≡ m = length-take-le m c.ids (shrink_place S R m c f) in
         let same : length (shrink S c m).hand.disk.image ≡ length c.hand.disk.image = (shrink_long S R m c f).hand.disk.image_same in

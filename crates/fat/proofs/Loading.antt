@@ -12,7 +12,7 @@ use borrow.Rule.Slice.PartMut.{put_mid}
 use lib.ListN.{length, get_or, set, take, drop}
 use Rattle.lists.specs.Lists.{every, tab}
 use Rattle.lists.proofs.Cases.{both_false_left, not_both, every_yes, every_ext, every_false}
-use Rattle.lists.proofs.Tab.{length_tab, getD_tab, filled_none, filled_more, filled_all, length_filled, filled_run}
+use Rattle.lists.proofs.Tab.{length_tab, get_or_tab, filled_none, filled_more, filled_all, length_filled, filled_run}
 use Rattle.sectors.specs.Sectors.{sector_of, per_sector, entry_in, entry_of, free_at, free_from}
 use Rattle.sectors.proofs.Laws.{entry_in_sector}
 use Rattle.consts.specs.Consts.{free_sector}
@@ -24,7 +24,7 @@ pub below_tab : (n : ℕ) (f : ℕ → ℕ) (d : ℕ) → all_below n (tab f d) 
 unfolding all_below
 below_tab n f d =
     ap (λ (k : ℕ). every k (λ i. ltb (get_or (tab f d) i 0) n)) (length_tab f d)
-    ∙ every_ext d (λ i. ltb (get_or (tab f d) i 0) n) (λ i. ltb (f i) n) (λ i l. rw (getD_tab f d i 0 l))
+    ∙ every_ext d (λ i. ltb (get_or (tab f d) i 0) n) (λ i. ltb (f i) n) (λ i l. rw (get_or_tab f d i 0 l))
 
 -- a list that is filled from the front with values below n, j of them so far
 pub record Filling (f : ℕ → ℕ) (n j : ℕ) (before now : List ℕ) : Type 0 where

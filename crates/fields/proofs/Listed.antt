@@ -66,26 +66,26 @@ flag_end xs i true h = free_end xs i h
 flag_end xs i false h = refl
 
 -- the bytes of a list, entry by entry
-pub length_listBytes : (xs : List ℕ) → length (list_bytes xs) ≡ 4 * length xs
+pub length_list_bytes : (xs : List ℕ) → length (list_bytes xs) ≡ 4 * length xs
 unfolding list_bytes
-length_listBytes [] = refl
-length_listBytes (x ∷ xs) = length-append (digits 4 x) (list_bytes xs) ∙ omega (arith, length_digits 4 x, length_listBytes xs)
+length_list_bytes [] = refl
+length_list_bytes (x ∷ xs) = length-append (digits 4 x) (list_bytes xs) ∙ omega (arith, length_digits 4 x, length_list_bytes xs)
 
-pub listBytes_snoc : (xs : List ℕ) (x : ℕ) → list_bytes (xs ++ (x ∷ [])) ≡ list_bytes xs ++ digits 4 x
+pub list_bytes_snoc : (xs : List ℕ) (x : ℕ) → list_bytes (xs ++ (x ∷ [])) ≡ list_bytes xs ++ digits 4 x
 unfolding list_bytes
-listBytes_snoc [] x = mathlib.Core.List.append-nil (digits 4 x)
-listBytes_snoc (y ∷ xs) x = ap (λ (l : List ℕ). digits 4 y ++ l) (listBytes_snoc xs x) ∙ sym (append_assoc (digits 4 y) (list_bytes xs) (digits 4 x))
+list_bytes_snoc [] x = mathlib.Core.List.append-nil (digits 4 x)
+list_bytes_snoc (y ∷ xs) x = ap (λ (l : List ℕ). digits 4 y ++ l) (list_bytes_snoc xs x) ∙ sym (append_assoc (digits 4 y) (list_bytes xs) (digits 4 x))
 
 -- a store of entry i after the i before it
 pub entry_stored : (b : List ℕ) (o : ℕ) (xs : List ℕ) (i : ℕ) → i < length xs → o + 4 * length xs ≤ length b
     → splice (splice b o (list_bytes (take i xs))) (o + 4 * i) (digits 4 (get_or xs i 0)) ≡ splice b o (list_bytes (take (i + 1) xs))
 entry_stored b o xs i h fits =
     let n : length (take i xs) ≡ i = length-take-le i xs (omega arith) in
-    let l : length (list_bytes (take i xs)) ≡ 4 * i = length_listBytes (take i xs) ∙ ap (λ (k : ℕ). 4 * k) n in
+    let l : length (list_bytes (take i xs)) ≡ 4 * i = length_list_bytes (take i xs) ∙ ap (λ (k : ℕ). 4 * k) n in
     let d : length (digits 4 (get_or xs i 0)) ≡ 4 = length_digits 4 (get_or xs i 0) in
     ap (λ (k : ℕ). splice (splice b o (list_bytes (take i xs))) (o + k) (digits 4 (get_or xs i 0))) (sym l)
     ∙ splice_append b o (list_bytes (take i xs)) (digits 4 (get_or xs i 0)) (omega arith)
-    ∙ ap (splice b o) (sym (ap list_bytes (rw (add-one i) (take-suc xs i 0 h)) ∙ listBytes_snoc (take i xs) (get_or xs i 0)))
+    ∙ ap (splice b o) (sym (ap list_bytes (rw (add-one i) (take-suc xs i 0 h)) ∙ list_bytes_snoc (take i xs) (get_or xs i 0)))
 
 -- what the ids at the front leave
 pub rest_free_lem : (xs : List ℕ) (n : ℕ) → n ≡ ids_in xs → all_free (take (length xs - n) (drop n xs)) ≡ ids_then_free xs

@@ -11,7 +11,7 @@ use lib.Dec.{eqb, leb, ltb}
 use lib.ListN.{length, take, drop, replicate, length-take, length-drop, length-replicate}
 use Rattle.lists.specs.Lists.{either, every, splice, part}
 use Rattle.lists.proofs.Cases.{both_left, either_cases, every_at, not_both}
-use Rattle.lists.proofs.Splice.{putMid_splice, splice_whole, length_part}
+use Rattle.lists.proofs.Splice.{put_mid_splice, splice_whole, length_part}
 use Rattle.words.specs.Words.{le, digits}
 use Rattle.consts.specs.Consts.{signature}
 use Rattle.fields.specs.Fields.{offset_of, width_of, holds_number, number_at}
@@ -51,7 +51,7 @@ lent_zeros b last o w fits e =
     let k : o + w - o ≡ w = omega arith in
     let l : length (take (o + w - o) (drop o b)) ≡ w = simp (length-take, length-drop) (omega arith) in
     let z : last ≡ replicate w 0 = e ∙ ap (λ (n : ℕ). replicate n 0) l in
-    rw (k, z) (putMid_splice o w b (replicate w 0) (length-replicate w 0))
+    rw (k, z) (put_mid_splice o w b (replicate w 0) (length-replicate w 0))
 
 -- a field with a number lies within a header
 pub number_fits : (i l w : ℕ) → holds_number i ≡ true → 512 ≤ l → width_of i ≡ w → offset_of i + w ≤ l
@@ -84,4 +84,4 @@ signature_stored b last o w h eo ew e =
     let k : o + w - o ≡ 8 = omega arith in
     let l : length (part b 0 8) ≡ 8 = length_part b 0 8 (omega arith) in
     let z : last ≡ signature = e ∙ ap (λ (p : List ℕ). splice p 0 signature) (part_lent b o w 0 8 eo ew) ∙ splice_whole (part b 0 8) signature (sym l) in
-    rw (k, z, eo) (putMid_splice 0 8 b signature refl)
+    rw (k, z, eo) (put_mid_splice 0 8 b signature refl)

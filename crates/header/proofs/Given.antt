@@ -13,8 +13,8 @@ use Rattle.lists.specs.Lists.{choose, both, same_list, Below}
 use Rattle.lists.specs.Rows.{test_of, ascend, by_number, Explained, Judged}
 use Rattle.lists.proofs.Exactly.{◌▸◌, exactly, accepted}
 use Rattle.lists.proofs.Cases.{below_or, same_or, true_or, not_both, both_true, both_left, both_right, either_cases, either_right, unlike}
-use Rattle.lists.proofs.Splice.{sameList_refl, sameList_false}
-use Rattle.lists.proofs.Tab.{length_tab, getD_tab}
+use Rattle.lists.proofs.Splice.{same_list_refl, same_list_false}
+use Rattle.lists.proofs.Tab.{length_tab, get_or_tab}
 use Rattle.words.proofs.Laws.{le_below}
 use Rattle.consts.specs.Consts.{max_regular, invalid_sector, end_of_chain, free_sector}
 use Rattle.fields.specs.Fields.{entry_at, list_of, ids_in, all_free, ids_then_free, unreadable}
@@ -121,7 +121,7 @@ pub entries_narrow : (b : List ℕ) → Below 256 b → (i : ℕ) → i < length
 unfolding list_of
 entries_narrow b small i h =
     let low : i < 109 = rw length_tab at h in
-    rw (getD_tab (entry_at b) 109 i 0 low) (le_below 4 b _ small)
+    rw (get_or_tab (entry_at b) 109 i 0 low) (le_below 4 b _ small)
 
 -- of four bytes, those that are neither a sector number nor FREE are document 01's 0xfffffffb to 0xfffffffe
 pub special_range : (e : ℕ) → e < 2 ^ 32 → ((max_regular < e) × (e ≢ free_sector)) ↔ ((invalid_sector ≤ e) × (e ≤ end_of_chain))
@@ -141,7 +141,7 @@ differ a b t = eqb-false a b (not-true (eqb a b) t)
 
 -- the test that two lists differ says so
 differ_lists : (xs ys : List ℕ) → not (same_list xs ys) ≡ true → xs ≢ ys
-differ_lists xs ys t e = let same : same_list xs ys ≡ true = rw e (sameList_refl ys) in not_both same (not-true (same_list xs ys) t)
+differ_lists xs ys t e = let same : same_list xs ys ≡ true = rw e (same_list_refl ys) in not_both same (not-true (same_list xs ys) t)
 
 -- an unknown major version is neither 3 nor 4
 unknown_told : (n : ℕ) → unknown n ≡ true → (n ≢ 3) × (n ≢ 4)
@@ -188,7 +188,7 @@ module _ (m : Validation) (b : List ℕ) where
   pub read_tested : (k : ℕ) → Cause m b k → test_of (read_rows m b) k ≡ true
   unfolding test_of read_rows unknown version_of
   read_tested k (Cause.short h) = lt-ltb _ _ h
-  read_tested k (Cause.unsigned n) = rw (sameList_false _ _ n)
+  read_tested k (Cause.unsigned n) = rw (same_list_false _ _ n)
   read_tested k (Cause.order n) = unlike _ _ n
   read_tested k (Cause.major n o) = both_true (unlike _ _ n) (unlike _ _ o)
   read_tested k (Cause.shift_3 e n) = rw e (unlike _ _ n)

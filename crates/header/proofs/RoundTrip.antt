@@ -13,7 +13,7 @@ use Rattle.lists.specs.Rows.{distinct, fresh}
 use Rattle.lists.proofs.Cases.{true_or, same_or, not_both, either_cases, either_right}
 use Rattle.lists.proofs.Rows.{First, given_first, given_none}
 use Rattle.lists.proofs.Splice.{below_splice, below_append, below_replicate}
-use Rattle.lists.proofs.Tab.{length_tab, getD_tab}
+use Rattle.lists.proofs.Tab.{length_tab, get_or_tab}
 use Rattle.words.specs.Words.{le, digits}
 use Rattle.words.proofs.Laws.{le_below, below_digits}
 use Rattle.consts.specs.Consts.{signature, minor_version, byte_order, mini_shift, mini_cutoff, end_of_chain, free_sector}
@@ -46,7 +46,7 @@ sized b h =
       difat = least (eqb (le 4 b 68) free_sector) end_of_chain (le 4 b 68) (omega arith) (le_below 4 b 68 h);
       difats = le_below 4 b 72 h;
       entries = length_tab (entry_at b) 109;
-      list = record { each = λ i l. let k : i < 109 = rw length_tab at l in rw (getD_tab (entry_at b) 109 i 0 k) (le_below 4 b (76 + 4 * i) h) };
+      list = record { each = λ i l. let k : i < 109 = rw length_tab at l in rw (get_or_tab (entry_at b) 109 i 0 k) (le_below 4 b (76 + 4 * i) h) };
     }
   where
     least : (t : Bool) (x y : ℕ) → x < 2 ^ 32 → y < 2 ^ 32 → choose t x y < 2 ^ 32
@@ -105,14 +105,14 @@ unfolding around
 around_sized xs n low =
     record { dirs = omega arith; fats = omega arith; dir = omega arith; minifat = omega arith; minifats = omega arith; difat = omega arith; difats = omega arith; entries = n; list = low }
 
-pub listBytes_below : (xs : List ℕ) → Below 256 (list_bytes xs)
+pub list_bytes_below : (xs : List ℕ) → Below 256 (list_bytes xs)
 unfolding list_bytes
-listBytes_below [] = record { each = λ i h. absurd (omega arith) }
-listBytes_below (x ∷ xs) = below_append 256 (digits 4 x) (list_bytes xs) (below_digits 4 x) (listBytes_below xs)
+list_bytes_below [] = record { each = λ i h. absurd (omega arith) }
+list_bytes_below (x ∷ xs) = below_append 256 (digits 4 x) (list_bytes xs) (below_digits 4 x) (list_bytes_below xs)
 
 header_below : (h : Header) → Below 256 (header_bytes h)
 unfolding header_bytes start_bytes number_bytes digits
-header_below h = join _ _ start (join _ _ numbers (listBytes_below h.list))
+header_below h = join _ _ start (join _ _ numbers (list_bytes_below h.list))
   where
     join : (xs ys : List ℕ) → Below 256 xs → Below 256 ys → Below 256 (xs ++ ys)
     join = below_append 256

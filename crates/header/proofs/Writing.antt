@@ -20,7 +20,7 @@ use Rattle.header.specs.declared.Validation.TheVariants.{Strict}
 use Rattle.header.specs.declared.Header.{Header}
 use Rattle.header.specs.declared.WriteVerdict.{WriteVerdict}
 use Rattle.header.specs.declared.WriteVerdict.TheVariants.{Written}
-use Rattle.fields.proofs.Listed.{length_listBytes}
+use Rattle.fields.proofs.Listed.{length_list_bytes}
 
 -- the fields from the signature to the reserved bytes, b being the buffer before, b1 to b8 after each store
 pub start_stored : (v : Version) (major shift : ℕ) (b b1 b2 b3 b4 b5 b6 b7 b8 : List ℕ) → 512 ≤ length b → major ≡ major_of v → shift ≡ shift_of v
@@ -82,7 +82,7 @@ pub header_stored : (h : Header) (b b1 b2 b3 : List ℕ) → 512 ≤ length b �
     → b3 ≡ splice b 0 (header_bytes h)
 unfolding header_bytes start_bytes number_bytes digits
 header_stored h b b1 b2 b3 l n e1 e2 e3 =
-    let k : length (list_bytes h.list) ≡ 436 = length_listBytes h.list ∙ ap (λ (x : ℕ). 4 * x) n in
+    let k : length (list_bytes h.list) ≡ 436 = length_list_bytes h.list ∙ ap (λ (x : ℕ). 4 * x) n in
     let f2 = splice_next b 0 (start_bytes h.version) (number_bytes h) e1 e2 (omega arith) in
     splice_next b 0 _ (list_bytes h.list) f2 e3 (omega arith)
 

@@ -13,7 +13,7 @@ use Rattle.lists.specs.Lists.{splice, part, Below}
 use Rattle.lists.specs.Rows.{refusal, distinct, fresh}
 use Rattle.lists.proofs.Cases.{either_none}
 use Rattle.lists.proofs.Rows.{given_none}
-use Rattle.lists.proofs.Splice.{length_splice, part_inside, sameList_refl}
+use Rattle.lists.proofs.Splice.{length_splice, part_inside, same_list_refl}
 use Rattle.lists.proofs.Tab.{is_tab}
 use Rattle.words.specs.Words.{le, digits}
 use Rattle.words.proofs.Laws.{le_ext, le_inside, le_digits, length_digits}
@@ -28,7 +28,7 @@ use Rattle.header.specs.declared.Validation.{Validation}
 use Rattle.header.specs.declared.Validation.TheVariants.{Permissive, Strict}
 use Rattle.header.specs.declared.Header.{Header}
 use Rattle.header.specs.declared.judge.Fixed.{Fixed}
-use Rattle.fields.proofs.Listed.{length_listBytes}
+use Rattle.fields.proofs.Listed.{length_list_bytes}
 use Rattle.header.proofs.Reading.{gives_0}
 use Rattle.header.proofs.Writing.{length_start, length_numbers}
 
@@ -52,7 +52,7 @@ pub length_header : (h : Header) → length h.list ≡ 109 → length (header_by
 unfolding header_bytes
 length_header h n =
     length-append (start_bytes h.version) (number_bytes h ++ list_bytes h.list)
-    ∙ omega (arith, length_start h.version, length-append (number_bytes h) (list_bytes h.list), length_numbers h, length_listBytes h.list, n)
+    ∙ omega (arith, length_start h.version, length-append (number_bytes h) (list_bytes h.list), length_numbers h, length_list_bytes h.list, n)
 
 -- a version comes back from its number
 version_back : (v : Version) → version_of (major_of v) ≡ v
@@ -190,7 +190,7 @@ module _ (h : Header) (s : Sized h) where
         → (read_no m (splice b 0 (header_bytes h)) ≡ 0) × (header_of (splice b 0 (header_bytes h)) ≡ h)
     unfolding w
     written_reads m e = (
-      sym (gives_0 m w (rw (length_splice b 0 (header_bytes h) fits) whole) (rw signature_back (sameList_refl signature))
+      sym (gives_0 m w (rw (length_splice b 0 (header_bytes h) fits) whole) (rw signature_back (same_list_refl signature))
           (sym (ap (λ (f : Fixed). refusal (fixed_rows m f)) fixed_back ∙ fixed_passes m h.version h.dirs kept.0))
           (rw list_back good.0)),
       content_back kept.0 good.1,

@@ -13,7 +13,7 @@ use lib.ListN.{length, get_or, set, drop, replicate, length-append, length-set, 
 use lib.Seq.{get_or-set_same, get_or-set_other, set-get_or, drop-cons, set_at, append_snoc}
 use Rattle.lists.specs.Lists.{choose, both, either, every}
 use Rattle.lists.proofs.Cases.{below_or, same_or, not_both, both_true, both_false_left, both_false_right, either_cases, either_right, every_ext}
-use Rattle.lists.proofs.Tab.{length_tab, getD_tab, is_tab}
+use Rattle.lists.proofs.Tab.{length_tab, get_or_tab, is_tab}
 use Rattle.consts.specs.Consts.{max_regular, invalid_sector, end_of_chain, free_sector}
 use Rattle.judge.specs.Judge.{regular, forgiven, pointed, wrong_at, first_wrong, forgiven_fat, marks_of, frees_from, frees_of}
 use Rattle.judge.specs.Judged.{wrong_by, marked_by, JudgedOne, Judged, Listed}
@@ -60,7 +60,7 @@ mark_one p h = sym (mark_tests p) ∙ eq-eqb (mark_of p) 1 h
 -- the marks, sector by sector
 pub mark_at : (n : ℕ) (fat marks : List ℕ) (t : ℕ) → marks ≡ marks_of n fat → t < n → get_or marks t 0 ≡ mark_of (pointed fat n t)
 unfolding marks_of
-mark_at n fat marks t e h = rw e (getD_tab (λ i. mark_of (pointed fat n i)) n t 0 h)
+mark_at n fat marks t e h = rw e (get_or_tab (λ i. mark_of (pointed fat n i)) n t 0 h)
 
 pub length_marks : (n : ℕ) (fat marks : List ℕ) → marks ≡ marks_of n fat → length marks ≡ n
 unfolding marks_of
@@ -103,7 +103,7 @@ unfolding pointed forgiven_fat
 forgiven_pointed n fat t small h =
     ap not
     (every_ext n (λ j. not (eqb (get_or (forgiven_fat n fat) j 0) t)) (λ j. not (eqb (get_or fat j 0) t))
-    (λ j l. ap not (ap (λ (x : ℕ). eqb x t) (getD_tab (λ i. forgiven n (get_or fat i 0)) n j 0 l) ∙ forgiven_points n (get_or fat j 0) t small h)))
+    (λ j l. ap not (ap (λ (x : ℕ). eqb x t) (get_or_tab (λ i. forgiven n (get_or fat i 0)) n j 0 l) ∙ forgiven_points n (get_or fat j 0) t small h)))
 
 -- the marks of the entries below i serve for rule 16, and grow by one
 pub record Marked (n : ℕ) (fat : List ℕ) (i : ℕ) (marks : List ℕ) : Type 0 where
@@ -195,23 +195,23 @@ unfolding forgiven_fat
 forgiving_all n fat₀ fat f = is_tab fat (λ i. forgiven n (get_or fat₀ i 0)) n f.long f.below
 
 -- the judging, sector by sector: one that passes, one that decides
-firstWrong_more : (strict : Bool) (n : ℕ) (fat : List ℕ) (i : ℕ) → i < n → wrong_at strict n fat i ≡ 0
+first_wrong_more : (strict : Bool) (n : ℕ) (fat : List ℕ) (i : ℕ) → i < n → wrong_at strict n fat i ≡ 0
     → first_wrong strict n fat i (n - i) ≡ first_wrong strict n fat (i + 1) (n - (i + 1))
 unfolding first_wrong
-firstWrong_more strict n fat i h e =
+first_wrong_more strict n fat i h e =
     let c : n - i ≡ suc (n - (i + 1)) = omega arith in
     rw (c, add-one i, eq-eqb (wrong_at strict n fat i) 0 e)
 
-firstWrong_here : (strict : Bool) (n : ℕ) (fat : List ℕ) (i : ℕ) → i < n → (wrong_at strict n fat i ≡ 0 → ⊥)
+first_wrong_here : (strict : Bool) (n : ℕ) (fat : List ℕ) (i : ℕ) → i < n → (wrong_at strict n fat i ≡ 0 → ⊥)
     → first_wrong strict n fat i (n - i) ≡ wrong_at strict n fat i
 unfolding first_wrong
-firstWrong_here strict n fat i h d =
+first_wrong_here strict n fat i h d =
     let c : n - i ≡ suc (n - (i + 1)) = omega arith in
     rw (c, ne_eqb (wrong_at strict n fat i) 0 d)
 
-firstWrong_none : (strict : Bool) (n : ℕ) (fat : List ℕ) (i : ℕ) → n ≤ i → first_wrong strict n fat i (n - i) ≡ 0
+first_wrong_none : (strict : Bool) (n : ℕ) (fat : List ℕ) (i : ℕ) → n ≤ i → first_wrong strict n fat i (n - i) ≡ 0
 unfolding first_wrong
-firstWrong_none strict n fat i h = let c : n - i ≡ 0 = omega arith in rw c
+first_wrong_none strict n fat i h = let c : n - i ≡ 0 = omega arith in rw c
 
 -- the judging loop before sector i: what is wrong from here on is what is wrong at all, and the entries below i are forgiven and marked
 pub record Judging (strict : Bool) (fat₀ : List ℕ) (i : ℕ) (fat marks : List ℕ) : Type 0 where
@@ -230,7 +230,7 @@ module _ {strict : Bool} {fat₀ : List ℕ} {i : ℕ} {fat marks : List ℕ} (g
   judging_ends h =
       let all : i ≡ length fat₀ = omega (arith, g.most, g.table.long) in
       record {
-        number = sym (g.rest ∙ firstWrong_none strict (length fat₀) fat₀ i (omega arith));
+        number = sym (g.rest ∙ first_wrong_none strict (length fat₀) fat₀ i (omega arith));
         table = λ z. forgiving_all (length fat₀) fat₀ fat (rw all at g.table);
         marked = λ z. marked_all (length fat₀) fat₀ marks g.small (rw all at g.marked);
       }
@@ -249,7 +249,7 @@ module _ {strict : Bool} {fat₀ : List ℕ} {i : ℕ} {fat marks : List ℕ} (g
 
     pub judging_stops : (r ≡ 0 → ⊥) → Judged strict fat₀ r fat' marks'
     judging_stops d = record {
-      number = same ∙ sym (g.rest ∙ firstWrong_here strict (length fat₀) fat₀ i low (λ z. d (same ∙ z)));
+      number = same ∙ sym (g.rest ∙ first_wrong_here strict (length fat₀) fat₀ i low (λ z. d (same ∙ z)));
       table = λ z. absurd (d z);
       marked = λ z. absurd (d z);
     }
@@ -258,7 +258,7 @@ module _ {strict : Bool} {fat₀ : List ℕ} {i : ℕ} {fat marks : List ℕ} (g
     judging_more z = record {
       small = g.small;
       most = omega (arith, low);
-      rest = g.rest ∙ firstWrong_more strict (length fat₀) fat₀ i low (sym same ∙ z);
+      rest = g.rest ∙ first_wrong_more strict (length fat₀) fat₀ i low (sym same ∙ z);
       table = rw (add-one i, one.table z, g.table.long) (forgiving_more (length fat₀) fat₀ i fat low g.table);
       marked = rw (add-one i, one.marked z, g.table.long, g.table.above i (omega arith)) (marked_more (length fat₀) fat₀ i marks g.small g.marked);
     }

@@ -38,32 +38,32 @@ unfolding set_all
 set_end before fat ids v j h s = sym (s ∙ rw (drop_of_length-le ids h))
 
 -- the FAT after its listed sectors are set: its length, a listed entry, another entry
-pub length_setAll : (fat ids : List ℕ) (v : ℕ) → length (set_all fat ids v) ≡ length fat
+pub length_set_all : (fat ids : List ℕ) (v : ℕ) → length (set_all fat ids v) ≡ length fat
 unfolding set_all
-length_setAll fat [] v = refl
-length_setAll fat (i ∷ is) v = length_setAll (set fat i v) is v ∙ length-set fat i v
+length_set_all fat [] v = refl
+length_set_all fat (i ∷ is) v = length_set_all (set fat i v) is v ∙ length-set fat i v
 
-setAll_stays : (fat ids : List ℕ) (v i : ℕ) → i < length fat → get_or fat i 0 ≡ v → get_or (set_all fat ids v) i 0 ≡ v
+set_all_stays : (fat ids : List ℕ) (v i : ℕ) → i < length fat → get_or fat i 0 ≡ v → get_or (set_all fat ids v) i 0 ≡ v
 unfolding set_all
-setAll_stays fat [] v i h e = e
-setAll_stays fat (k ∷ ks) v i h e =
-    setAll_stays (set fat k v) ks v i (rw (length-set fat k v) h)
+set_all_stays fat [] v i h e = e
+set_all_stays fat (k ∷ ks) v i h e =
+    set_all_stays (set fat k v) ks v i (rw (length-set fat k v) h)
     (⊎_elim
     (λ (s : i ≡ k). rw (← s) (get_or-set_same fat i v 0 h))
     (λ (n : i ≢ k). get_or-set_other fat k i v 0 n ∙ e)
     (same_or i k))
 
-pub setAll_listed : (fat ids : List ℕ) (v j : ℕ) → j < length ids → get_or ids j 0 < length fat → get_or (set_all fat ids v) (get_or ids j 0) 0 ≡ v
+pub set_all_listed : (fat ids : List ℕ) (v j : ℕ) → j < length ids → get_or ids j 0 < length fat → get_or (set_all fat ids v) (get_or ids j 0) 0 ≡ v
 unfolding set_all
-setAll_listed fat [] v j h l = absurd (omega arith)
-setAll_listed fat (k ∷ ks) v zero h l = setAll_stays (set fat k v) ks v k (rw (length-set fat k v) l) (get_or-set_same fat k v 0 l)
-setAll_listed fat (k ∷ ks) v (suc j) h l = setAll_listed (set fat k v) ks v j (omega arith) (rw (length-set fat k v) l)
+set_all_listed fat [] v j h l = absurd (omega arith)
+set_all_listed fat (k ∷ ks) v zero h l = set_all_stays (set fat k v) ks v k (rw (length-set fat k v) l) (get_or-set_same fat k v 0 l)
+set_all_listed fat (k ∷ ks) v (suc j) h l = set_all_listed (set fat k v) ks v j (omega arith) (rw (length-set fat k v) l)
 
-pub setAll_other : (fat ids : List ℕ) (v i : ℕ) → ((j : ℕ) → j < length ids → get_or ids j 0 ≡ i → ⊥) → get_or (set_all fat ids v) i 0 ≡ get_or fat i 0
+pub set_all_other : (fat ids : List ℕ) (v i : ℕ) → ((j : ℕ) → j < length ids → get_or ids j 0 ≡ i → ⊥) → get_or (set_all fat ids v) i 0 ≡ get_or fat i 0
 unfolding set_all
-setAll_other fat [] v i n = refl
-setAll_other fat (k ∷ ks) v i n =
-    setAll_other (set fat k v) ks v i (λ j h. n (suc j) (omega arith))
+set_all_other fat [] v i n = refl
+set_all_other fat (k ∷ ks) v i n =
+    set_all_other (set fat k v) ks v i (λ j h. n (suc j) (omega arith))
     ∙ get_or-set_other fat k i v 0 (λ e. n 0 (omega arith) (sym e))
 
 -- a FAT whose listed sectors have their entry already stays as it is
@@ -75,16 +75,16 @@ set_marked fat (k ∷ ks) v t =
     ap (λ (l : List ℕ). set_all l ks v) e ∙ set_marked fat ks v (marked_of fat ks v (λ j h. marked_at fat (k ∷ ks) v t (suc j) (omega arith)))
 
 -- both lists: one after the other, the length, and a FAT that has its marks
-pub markedFat_two : (fat mid last difats fats : List ℕ) → mid ≡ set_all fat difats difat_sector → last ≡ set_all mid fats fat_sector → last ≡ marked_fat fat difats fats
+pub marked_fat_two : (fat mid last difats fats : List ℕ) → mid ≡ set_all fat difats difat_sector → last ≡ set_all mid fats fat_sector → last ≡ marked_fat fat difats fats
 unfolding marked_fat
-markedFat_two fat mid last difats fats e f = f ∙ ap (λ (l : List ℕ). set_all l fats fat_sector) e
+marked_fat_two fat mid last difats fats e f = f ∙ ap (λ (l : List ℕ). set_all l fats fat_sector) e
 
-pub length_markedFat : (fat difats fats : List ℕ) → length (marked_fat fat difats fats) ≡ length fat
+pub length_marked_fat : (fat difats fats : List ℕ) → length (marked_fat fat difats fats) ≡ length fat
 unfolding marked_fat
-length_markedFat fat difats fats = length_setAll (set_all fat difats difat_sector) fats fat_sector ∙ length_setAll fat difats difat_sector
+length_marked_fat fat difats fats = length_set_all (set_all fat difats difat_sector) fats fat_sector ∙ length_set_all fat difats difat_sector
 
-pub markedFat_marked : (fat difats fats : List ℕ) → both (all_marked fat difats difat_sector) (all_marked fat fats fat_sector) ≡ true → marked_fat fat difats fats ≡ fat
+pub marked_fat_marked : (fat difats fats : List ℕ) → both (all_marked fat difats difat_sector) (all_marked fat fats fat_sector) ≡ true → marked_fat fat difats fats ≡ fat
 unfolding marked_fat
-markedFat_marked fat difats fats t =
+marked_fat_marked fat difats fats t =
     ap (λ (l : List ℕ). set_all l fats fat_sector) (set_marked fat difats difat_sector (both_left _ (all_marked fat fats fat_sector) t))
     ∙ set_marked fat fats fat_sector (both_right (all_marked fat difats difat_sector) _ t)

@@ -14,7 +14,7 @@ use Rattle.lists.proofs.Tab.{length_tab}
 use Rattle.consts.specs.Consts.{invalid_sector, difat_sector, fat_sector}
 use Rattle.judge.specs.Judge.{all_marked, marked_fat, regular, pointed, wrong_at, first_wrong, forgiven_fat, marks_of, none_dangles, fat_rows}
 use Rattle.judge.specs.Judged.{Judged, FatJudged}
-use Rattle.judge.proofs.Marking.{length_markedFat}
+use Rattle.judge.proofs.Marking.{length_marked_fat}
 
 -- what a sector can be judged as
 pub data Number : ℕ → Type 0 where
@@ -74,13 +74,13 @@ module _ (strict : Bool) (fat difats fats : List ℕ) where
 
     -- what the judging of the marked FAT says, at the FAT's own length
     judged_number : (w : ℕ) (fat' marks : List ℕ) → Judged strict (marked_fat fat difats fats) w fat' marks → w ≡ first_wrong strict (length fat) (marked_fat fat difats fats) 0 (length fat)
-    judged_number w fat' marks j = rw (length_markedFat fat difats fats) at j.number
+    judged_number w fat' marks j = rw (length_marked_fat fat difats fats) at j.number
 
     judged_table : (w : ℕ) (fat' marks : List ℕ) → Judged strict (marked_fat fat difats fats) w fat' marks → w ≡ 0 → fat' ≡ forgiven_fat (length fat) (marked_fat fat difats fats)
-    judged_table w fat' marks j z = rw (length_markedFat fat difats fats) at (j.table z)
+    judged_table w fat' marks j z = rw (length_marked_fat fat difats fats) at (j.table z)
 
     judged_marks : (w : ℕ) (fat' marks : List ℕ) → Judged strict (marked_fat fat difats fats) w fat' marks → w ≡ 0 → marks ≡ marks_of (length fat) (forgiven_fat (length fat) (marked_fat fat difats fats))
-    judged_marks w fat' marks j z = rw (length_markedFat fat difats fats) at (j.marked z)
+    judged_marks w fat' marks j z = rw (length_marked_fat fat difats fats) at (j.marked z)
 
     pub fat_wrong : (w : ℕ) (fat' marks : List ℕ) → Judged strict (marked_fat fat difats fats) w fat' marks → (w ≡ 0 → ⊥) → FatJudged strict fat difats fats w fat' marks
     fat_wrong w fat' marks j n =

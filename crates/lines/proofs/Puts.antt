@@ -8,7 +8,7 @@ use borrow.Rule.Slice.PartMut.{put_mid}
 use lib.ListN.{length, take, drop, replicate, length-append}
 use lib.Seq.{take_at}
 use Rattle.lists.specs.Lists.{splice, part}
-use Rattle.lists.proofs.Splice.{length_part, length_splice, splice_nil, splice_whole, putMid_splice}
+use Rattle.lists.proofs.Splice.{length_part, length_splice, splice_nil, splice_whole, put_mid_splice}
 use Rattle.consts.specs.Pretty.{prettify_of, item_at}
 use Rattle.texts.specs.Text.{text_of, decimal_of, written, Put}
 use Rattle.consts.specs.declared.Sector.{Sector}
@@ -29,7 +29,7 @@ word_put b at word {last} h e =
     let p : take (at + length word - at) (drop at b) ≡ part b at (length word) = ap (λ (n : ℕ). take n (drop at b)) k in
     let l : length (part b at (length word)) ≡ length word = length_part b at (length word) h in
     let z : last ≡ word = e ∙ ap (λ (q : List ℕ). splice q 0 word) p ∙ splice_whole (part b at (length word)) word (sym l) in
-    let back : put_mid at (at + length word - at) b last ≡ splice b at word = rw (k, z) (putMid_splice at (length word) b word refl) in
+    let back : put_mid at (at + length word - at) b last ≡ splice b at word = rw (k, z) (put_mid_splice at (length word) b word refl) in
     record { place = refl; kept = ap length back ∙ length_splice b at word h; buffer = back }
 
 -- the text of `text_of` and `digits_of`, taken off its bytes

@@ -128,9 +128,9 @@ module _ (S R m : ℕ) (c : Chain) (f : FitsShrink S R m c) where
       (λ (g : c.count ≤ m). rw (shrink_none S c m g))
       (below_or m c.count)
 
-  pub shrink_idsOf : ids_of (shrink S c m) ≡ take m c.ids
+  pub shrink_ids_of : ids_of (shrink S c m) ≡ take m c.ids
   unfolding ids_of
-  shrink_idsOf =
+  shrink_ids_of =
       ⊎_elim
       (λ (l : m < c.count). rw (shrink_some S c m l) (padded_front c.ids m shrink_place))
       (λ (g : c.count ≤ m). let e : c.count ≡ m = omega (arith, f.within) in rw (shrink_none S c m g, e))

@@ -7,7 +7,7 @@ use borrow.Rule.Slice.PartMut.{put_mid}
 use lib.ListN.{length, take, drop, replicate, length-replicate, length-drop, drop_of_length-le}
 use lib.Seq.{take_all, length-take-le}
 use Rattle.lists.specs.Lists.{splice}
-use Rattle.lists.proofs.Splice.{putMid_splice}
+use Rattle.lists.proofs.Splice.{put_mid_splice}
 use Rattle.alloc.specs.Opening.{padded}
 
 -- zeros put over all that lies past a place
@@ -19,7 +19,7 @@ zeroed_past xs run from h e =
     let long : length run ≡ length xs - from = ap length e ∙ length-replicate {A = ℕ} _ 0 ∙ l in
     let front : length (take from xs) ≡ from = length-take-le from xs (omega arith) in
     let rest : drop (from + length run) xs ≡ [] = drop_of_length-le xs {i = from + length run} (omega arith) in
-    putMid_splice from (length xs - from) xs run long ∙ rw (rest, append-nil run, front, e, l)
+    put_mid_splice from (length xs - from) xs run long ∙ rw (rest, append-nil run, front, e, l)
 
 -- nothing lies past a place at the end
 pub zeroed_none : (xs : List ℕ) (from : ℕ) → length xs ≤ from → xs ≡ padded (take from xs) (length xs)

@@ -7,7 +7,7 @@ use native.Mathlib.Omega.{arith}
 use borrow.Rule.Slice.PartMut.{put_mid}
 use lib.ListN.{length, take, replicate, length-replicate}
 use Rattle.lists.specs.Lists.{part, same_list, splice}
-use Rattle.lists.proofs.Splice.{sameList_true, length_part, length_splice, putMid_splice}
+use Rattle.lists.proofs.Splice.{same_list_true, length_part, length_splice, put_mid_splice}
 use Rattle.header.specs.declared.Validation.{Validation}
 use Rattle.alloc.specs.Opening.{Tables, shortest, open_no}
 use Rattle.alloc.specs.Opened.{tables_left}
@@ -41,7 +41,7 @@ unfolding sector_bytes
 sectors_put b place {headed = headed} l p i z h s =
     let k : 512 * (place + 1) + 512 - 512 * (place + 1) ≡ 512 = omega arith in
     let top : headed ≡ splice (replicate 12800 0) 0 (part b 8 512) = h ∙ ap (λ (x : List ℕ). splice x 0 (part b 8 512)) (z ∙ ap (λ (m : ℕ). replicate m 0) i) in
-    rw (k, s, top, ← p) (putMid_splice (512 * (place + 1)) 512 _ (entries_in b) (entries_long b l))
+    rw (k, s, top, ← p) (put_mid_splice (512 * (place + 1)) 512 _ (entries_in b) (entries_long b l))
 
 -- five tables that were compared
 pub tables_same_lem : (b : List ℕ) {fat fats difats frees marks : List ℕ} → fat ≡ numbers_in (part b 616 96) 24 → frees ≡ numbers_in (part b 712 96) 24 → fats ≡ numbers_in (part b 832 96) 24
@@ -49,7 +49,7 @@ pub tables_same_lem : (b : List ℕ) {fat fats difats frees marks : List ℕ} �
     → ◌≡◌ {A = Tables} (record { fat = fat; fats = fats; difats = difats; frees = frees; marks = marks }) (tables_in b)
 unfolding tables_in
 tables_same_lem b {marks = marks} f e s d m =
-    let k : marks ≡ part b 808 24 = sameList_true _ _ m in
+    let k : marks ≡ part b 808 24 = same_list_true _ _ m in
     λ i. record { fat = f i; fats = s i; difats = d i; frees = e i; marks = k i }
 
 -- a call that told, and left as id list, what the record has

@@ -12,7 +12,7 @@ use lib.ListN.{length, get_or, set, take, replicate, length-set, get_or-replicat
 use lib.Seq.{get_or-set_same, get_or-set_other, take_all}
 use Rattle.lists.specs.Lists.{choose, both, either, every, same_list, Below}
 use Rattle.lists.proofs.Cases.{same_or, below_or, true_or, not_both, both_true, both_left, both_right, same_test, either_cases, either_right, every_at, every_of, alike, unlike}
-use Rattle.lists.proofs.Tab.{getD_tab, is_tab}
+use Rattle.lists.proofs.Tab.{get_or_tab, is_tab}
 use Rattle.consts.specs.Consts.{invalid_sector, free_sector}
 use Rattle.judge.specs.Judge.{pointed, marks_of, none_dangles}
 use Rattle.judge.proofs.Judging.{pointed_by, pointer_of}
@@ -218,7 +218,7 @@ module _ (fat marks : List ℕ) (long : length marks ≡ length fat) where
 
   at_pointers : (i : ℕ) → i < length fat → get_or (pointers_of fat) i 0 ≡ occurs i fat
   unfolding pointers_of
-  at_pointers i h = getD_tab (λ k. occurs k fat) (length fat) i 0 h
+  at_pointers i h = get_or_tab (λ k. occurs k fat) (length fat) i 0 h
 
   abbrev mark_at : ℕ → Bool
   mark_at i = eqb (get_or marks i 0) (choose (pointed fat (length fat) i) 1 0)

@@ -10,8 +10,8 @@ use lib.Dec.{eqb}
 use lib.ListN.{length, get_or, length-append}
 use Rattle.lists.specs.Lists.{both, every, tab, same_list}
 use Rattle.lists.proofs.Cases.{same_test, every_at, every_of}
-use Rattle.lists.proofs.Tab.{getD_tab, is_tab}
-use Rattle.lists.proofs.Splice.{sameList_true, sameList_refl}
+use Rattle.lists.proofs.Tab.{get_or_tab, is_tab}
+use Rattle.lists.proofs.Splice.{same_list_true, same_list_refl}
 use Rattle.consts.specs.Consts.{free_sector}
 use Rattle.judge.specs.Judge.{frees_of}
 use Rattle.judge.proofs.Judging.{frees_end_yes, frees_end_no}
@@ -29,13 +29,13 @@ flag_more f j flag t e h = rw (add-one j, e, h) (swapped (every j f) (f j))
 
 -- two equal lists pass the test, and the test of a list and a table goes element by element
 pub same_of : (a b : List ℕ) → a ≡ b → same_list a b ≡ true
-same_of a b e = ap (same_list a) (sym e) ∙ sameList_refl a
+same_of a b e = ap (same_list a) (sym e) ∙ same_list_refl a
 
 pub same_tab : (xs : List ℕ) (f : ℕ → ℕ) (n : ℕ) → length xs ≡ n → every n (λ i. eqb (get_or xs i 0) (f i)) ≡ same_list xs (tab f n)
 same_tab xs f n e =
     same_test (every n (λ i. eqb (get_or xs i 0) (f i))) (same_list xs (tab f n))
     (λ t. same_of xs (tab f n) (is_tab xs f n e (λ i h. eqb-true _ _ (every_at n (λ k. eqb (get_or xs k 0) (f k)) t i h))))
-    (λ t. every_of n (λ k. eqb (get_or xs k 0) (f k)) (λ i h. eq-eqb _ _ (ap (λ (l : List ℕ). get_or l i 0) (sameList_true xs (tab f n) t) ∙ getD_tab f n i 0 h)))
+    (λ t. every_of n (λ k. eqb (get_or xs k 0) (f k)) (λ i h. eq-eqb _ _ (ap (λ (l : List ℕ). get_or l i 0) (same_list_true xs (tab f n) t) ∙ get_or_tab f n i 0 h)))
 
 -- one entry more, FREE or not
 pub count_yes : (fat : List ℕ) (i count next : ℕ) → get_or fat i 0 ≡ free_sector → count ≡ length (frees_of i fat) → next ≡ count + 1 → next ≡ length (frees_of (i + 1) fat)

@@ -13,7 +13,7 @@ use lib.Seq.{get_or-take, get_or-drop, length-take-le}
 use Rattle.lists.specs.Lists.{choose, part}
 use Rattle.lists.proofs.Cases.{below_or, same_or, both_true}
 use Rattle.lists.proofs.Splice.{get_d_part}
-use Rattle.lists.proofs.Tab.{length_tab, getD_tab}
+use Rattle.lists.proofs.Tab.{length_tab, get_or_tab}
 use Rattle.words.specs.Words.{le}
 use Rattle.words.proofs.Laws.{le_ext}
 use Rattle.consts.specs.Consts.{max_regular, end_of_chain, free_sector}
@@ -98,7 +98,7 @@ entry_word S img i e h =
 -- the same of the header's list and of the places of the DIFAT in its sectors
 list_word : (S : ℕ) (img difats : List ℕ) (p : ℕ) → p < 109 → get_or (list_of img) p 0 ≡ le 4 img (place_of S difats p)
 unfolding list_of entry_at place_of
-list_word S img difats p h = getD_tab (entry_at img) 109 p 0 h ∙ sym (rw (lt-ltb p 109 h))
+list_word S img difats p h = get_or_tab (entry_at img) 109 p 0 h ∙ sym (rw (lt-ltb p 109 h))
 
 place_word : (S : ℕ) (difats : List ℕ) (q : ℕ) → place_of S difats (109 + q) ≡ start_of S (get_or difats (q / (per_sector S - 1)) 0) + 4 * (q % (per_sector S - 1))
 unfolding place_of

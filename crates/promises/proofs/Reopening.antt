@@ -30,7 +30,7 @@ use Rattle.judge.specs.Judge.{marks_of, frees_of}
 use Rattle.stores.specs.Stores.{NotIn}
 use Rattle.alloc.specs.Opening.{Tables, first_rows, table_rows, open_fat, open_tables, shortest, padded}
 use Rattle.alloc.proofs.First.{early_passed}
-use Rattle.alloc.proofs.Filled.{front_padded, length_openFat, length_marks, length_fats, length_difats}
+use Rattle.alloc.proofs.Filled.{front_padded, length_open_fat, length_marks, length_fats, length_difats}
 use Rattle.points.specs.Frees.{FreesOnce}
 use Rattle.agree.specs.Agrees.{Held, Agrees}
 use Rattle.sound.specs.Sound.{Encodes, Sound, Accepts}
@@ -301,7 +301,7 @@ module _ (m : Validation) (img : List ℕ) (used free : ℕ) (t : Tables) where
     tailed_own : Tailed own_len (hand_in img own free t)
     unfolding open_tables
     tailed_own = record {
-      fat = λ i l. past t.fat _ i a.tables.fat (omega (arith, l, length_openFat own_len img (header_of img) own));
+      fat = λ i l. past t.fat _ i a.tables.fat (omega (arith, l, length_open_fat own_len img (header_of img) own));
       fats = λ i l. past t.fats _ i a.tables.fats (omega (arith, l, length_fats own_len img (header_of img) own));
       difats = λ i l. past t.difats _ i a.tables.difats (omega (arith, l, length_difats own_len img (header_of img) own));
       frees = λ i l. ⊎_elim (λ (h : i < length t.frees). a.tables.rest i l h) (λ (g : length t.frees ≤ i). get_or-eq_default t.frees 0 g) (below_or i (length t.frees));

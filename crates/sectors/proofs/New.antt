@@ -7,12 +7,12 @@ use native.Mathlib.Nat.{zero-add}
 use borrow.Rule.Slice.PartMut.{put_mid}
 use lib.ListN.{length, take, drop, replicate, length-append, length-replicate, get_or-replicate}
 use Rattle.lists.specs.Lists.{splice, part}
-use Rattle.lists.proofs.Splice.{length_part, length_splice, is_splice, splice_append, splice_whole, splice_part, putMid_splice}
+use Rattle.lists.proofs.Splice.{length_part, length_splice, is_splice, splice_append, splice_whole, splice_part, put_mid_splice}
 use Rattle.words.specs.Words.{digits}
 use Rattle.words.proofs.Laws.{length_digits}
 use Rattle.consts.specs.Consts.{end_of_chain, free_sector}
 use Rattle.fields.specs.Fields.{list_bytes}
-use Rattle.fields.proofs.Listed.{length_listBytes, listBytes_snoc}
+use Rattle.fields.proofs.Listed.{length_list_bytes, list_bytes_snoc}
 use Rattle.sectors.specs.Sectors.{start_of, sector_of, per_sector}
 use Rattle.sectors.specs.Init.{init_bytes}
 use Rattle.sectors.specs.declared.init.SectorInit.{SectorInit}
@@ -43,7 +43,7 @@ last_put k h =
     ∙ splice_whole (replicate (4 * k) 255) (front ++ digits 4 end_of_chain)
     (length-append front (digits 4 end_of_chain) ∙ omega (arith, long, length_digits 4 end_of_chain, length-replicate {A = ℕ} (4 * k) 255))
     ∙ ap (λ (l : List ℕ). l ++ digits 4 end_of_chain) (free_bytes (k - 1))
-    ∙ sym (listBytes_snoc (replicate (k - 1) free_sector) end_of_chain)
+    ∙ sym (list_bytes_snoc (replicate (k - 1) free_sector) end_of_chain)
   where
     front : List ℕ
     front = replicate (4 * (k - 1)) 255
@@ -73,9 +73,9 @@ init_difat S o filled after e h place f a =
 pub length_init : (S : ℕ) (init : SectorInit) → S ≡ 4 * per_sector S → 1 ≤ per_sector S → length (init_bytes S init) ≡ S
 unfolding init_bytes
 length_init S Zero e h = length-replicate {A = ℕ} S 0
-length_init S Fat e h = length_listBytes (replicate (per_sector S) free_sector) ∙ omega (arith, length-replicate {A = ℕ} (per_sector S) free_sector, e)
+length_init S Fat e h = length_list_bytes (replicate (per_sector S) free_sector) ∙ omega (arith, length-replicate {A = ℕ} (per_sector S) free_sector, e)
 length_init S Difat e h =
-    length_listBytes (replicate (per_sector S - 1) free_sector ++ (end_of_chain ∷ []))
+    length_list_bytes (replicate (per_sector S - 1) free_sector ++ (end_of_chain ∷ []))
     ∙ omega (arith, length-append (replicate (per_sector S - 1) free_sector) (end_of_chain ∷ []), length-replicate {A = ℕ} (per_sector S - 1) free_sector, e)
 
 -- a run stored in a sector that was lent, and a whole sector
@@ -84,7 +84,7 @@ pub put_part : (S i : ℕ) (img run : List ℕ) (o : ℕ) (ys : List ℕ) → o 
     → put_mid ((i + 1) * S) ((i + 1) * S + S - (i + 1) * S) img run ≡ splice img (start_of S i + o) ys
 unfolding sector_of
 put_part S i img run o ys fits inside e =
-    putMid_splice ((i + 1) * S) ((i + 1) * S + S - (i + 1) * S) img run (ap length ran ∙ long ∙ omega arith)
+    put_mid_splice ((i + 1) * S) ((i + 1) * S + S - (i + 1) * S) img run (ap length ran ∙ long ∙ omega arith)
     ∙ ap (splice img ((i + 1) * S)) ran
     ∙ splice_part img ((i + 1) * S) S o ys fits inside
   where
@@ -101,7 +101,7 @@ unfolding sector_of
 init_part S i img run init e h inside ran =
     let long : length (take ((i + 1) * S + S - (i + 1) * S) (drop ((i + 1) * S) img)) ≡ S = ap length (lent_sector S i img) ∙ length_part img ((i + 1) * S) S inside in
     let is : run ≡ init_bytes S init = ran ∙ ap (λ (n : ℕ). init_bytes n init) long in
-    putMid_splice ((i + 1) * S) ((i + 1) * S + S - (i + 1) * S) img run (ap length is ∙ length_init S init e h ∙ omega arith)
+    put_mid_splice ((i + 1) * S) ((i + 1) * S + S - (i + 1) * S) img run (ap length is ∙ length_init S init e h ∙ omega arith)
     ∙ ap (splice img ((i + 1) * S)) is
 
 -- a sector of entries has a byte

@@ -10,7 +10,7 @@ use borrow.Author.Tests.{eq-eqb, eqb-true}
 use lib.Dec.{eqb}
 use lib.ListN.{length, get_or}
 use Rattle.lists.proofs.Cases.{below_or, both_true, both_left, both_right, either_cases, either_right, every_at, every_of}
-use Rattle.lists.proofs.Tab.{length_tab, getD_tab, is_tab}
+use Rattle.lists.proofs.Tab.{length_tab, get_or_tab, is_tab}
 use Rattle.consts.specs.Consts.{end_of_chain, free_sector}
 use Rattle.fields.specs.Fields.{ids_in}
 use Rattle.header.specs.declared.Header.{Header}
@@ -37,7 +37,7 @@ module _ (S : ℕ) (img : List ℕ) (first : ℕ) where
   -- the list of the chain has its sectors in their order
   listed_at_lem : (d j : ℕ) → j < d → get_or (difats_of S img first d) j 0 ≡ difat_at S img first j
   unfolding difats_of
-  listed_at_lem d j h = getD_tab (difat_at S img first) d j 0 h
+  listed_at_lem d j h = get_or_tab (difat_at S img first) d j 0 h
 
   -- the last entry of each is where the chain leads next
   leads_on : (d j : ℕ) → j < d → next_of S img (get_or (difats_of S img first d) j 0) ≡ difat_at S img first (j + 1)
@@ -163,7 +163,7 @@ module _ (S : ℕ) (img : List ℕ) (h : Header) (n : ℕ) where
   -- a FAT sector is what its place in the DIFAT says
   fats_at_lem : (p : ℕ) → p < length (fats_in S img h n) → get_or (fats_in S img h n) p 0 ≡ place_at S img h.list (difats_in S img h n) p
   unfolding fats_in fats_of
-  fats_at_lem p l = getD_tab _ k p 0 (rw (length_fats S img h n) at l)
+  fats_at_lem p l = get_or_tab _ k p 0 (rw (length_fats S img h n) at l)
 
   -- lists that are right, with FREE behind the n entries, are encoded by the bytes
   pub encoded_told : ListsRight S img h n → tail_free S img (fats_in S img h n) n ≡ true → Encodes S img h n (raw_fat S img h n) (fats_in S img h n) (difats_in S img h n)
@@ -184,7 +184,7 @@ module _ (S : ℕ) (img : List ℕ) (h : Header) (n : ℕ) where
             ends_told _ (ap ends (leads_on S img h.difat d j (omega arith) ∙ ap (difat_at S img h.difat) e') ∙ r.ended);
         places = λ q l. place_beyond S img h.list (difats_in S img h n) q ∙ sym (fats_at_lem (109 + q) l);
         places_rest = λ q g l. rest_told S img h.list (difats_in S img h n) k _ r.rest q (rw (length_fats S img h n) at g) l;
-        entries = λ i l. sym (getD_tab _ n i 0 l);
+        entries = λ i l. sym (get_or_tab _ n i 0 l);
         entries_rest = tail_told S img (fats_in S img h n) n t;
       }
 

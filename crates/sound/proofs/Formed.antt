@@ -17,7 +17,7 @@ use Rattle.consts.specs.Consts.{max_regular, invalid_sector, difat_sector, fat_s
 use Rattle.fat.specs.Lists.{fat_count, difat_count, all_below, different}
 use Rattle.judge.specs.Judge.{all_marked, marked_fat, regular, forgiven, pointed, wrong_at, first_wrong, forgiven_fat, none_dangles, fat_rows}
 use Rattle.fat.proofs.Differing.{below_at, different_at}
-use Rattle.judge.proofs.Marking.{marked_at, marked_of, markedFat_marked}
+use Rattle.judge.proofs.Marking.{marked_at, marked_of, marked_fat_marked}
 use Rattle.judge.proofs.Judging.{pointed_by, pointer_of, forgiven_low, forgiven_kind}
 use Rattle.judge.proofs.Rows.{Number, first_number}
 use Rattle.sound.specs.Sound.{WellFormed}
@@ -137,7 +137,7 @@ unfolding fat_rows distinct fresh
 judged_told n fat fats difats e z =
     let none = given_none (fat_rows true n fat difats fats) refl z in
     let marked : both (all_marked fat difats difat_sector) (all_marked fat fats fat_sector) ≡ true = not-false _ (none 0 (omega arith)) in
-    let same : marked_fat fat difats fats ≡ fat = markedFat_marked fat difats fats marked in
+    let same : marked_fat fat difats fats ≡ fat = marked_fat_marked fat difats fats marked in
     let number : first_wrong true n fat 0 n ≡ 0 =
     ap (λ (f : List ℕ). first_wrong true n f 0 n) (sym same)
     ∙ number_zero _ (first_number true n (marked_fat fat difats fats) 0 n) (none 1 (omega arith)) (none 2 (omega arith)) (none 3 (omega arith)) in
@@ -178,7 +178,7 @@ module _ {S n : ℕ} {fat fats difats : List ℕ} where
 
     -- an opening leaves a well-formed FAT as it is
     pub formed_opens : forgiven_fat n (marked_fat fat difats fats) ≡ fat
-    formed_opens = ap (forgiven_fat n) (markedFat_marked fat difats fats all_marked_lem) ∙ unforgiven n fat f.fat_length f.points_below
+    formed_opens = ap (forgiven_fat n) (marked_fat_marked fat difats fats all_marked_lem) ∙ unforgiven n fat f.fat_length f.points_below
 
     -- none of their sectors is wrong
     formed_passes : first_wrong true n fat 0 n ≡ 0
@@ -196,4 +196,4 @@ module _ {S n : ℕ} {fat fats difats : List ℕ} where
     pub formed_judged : refusal (fat_rows true n fat difats fats) ≡ 0
     unfolding fat_rows refusal
     formed_judged =
-        rw (all_marked_lem, formed_opens, markedFat_marked fat difats fats all_marked_lem, formed_passes, dangles_tested n fat f.none_dangles)
+        rw (all_marked_lem, formed_opens, marked_fat_marked fat difats fats all_marked_lem, formed_passes, dangles_tested n fat f.none_dangles)

@@ -12,7 +12,7 @@ use Rattle.lists.specs.Lists.{choose, both, either, every, tab}
 use Rattle.lists.specs.Rows.{Row, row, test_of, ascend, by_number, Explained, Judged}
 use Rattle.lists.proofs.Cases.{refuted, both_fails, every_fails, one_other, other_one, below_or, same_or, not_both, both_true, both_left, both_right, both_false_left, both_false_right, either_cases, either_right, either_none, every_false, unlike}
 use Rattle.lists.proofs.Exactly.{◌▸◌, exactly, accepted, explained_by, explained_append, tested_append, tested_easier}
-use Rattle.lists.proofs.Tab.{length_tab, getD_tab}
+use Rattle.lists.proofs.Tab.{length_tab, get_or_tab}
 use Rattle.consts.specs.Consts.{max_regular, invalid_sector, difat_sector, free_sector}
 use Rattle.header.specs.Versions.{is_strict}
 use Rattle.header.specs.Read.{header_rows, read_rows, header_of}
@@ -31,7 +31,7 @@ use Rattle.sound.specs.Causes.{sector_len, sector_count, difat_place, ListsWrong
 module _ (n : ℕ) (f : ℕ → ℕ) (c : ℕ) where
   -- a table with a value that is not below n does not pass as below n
   below_tested : (j : ℕ) → j < c → n ≤ f j → all_below n (tab f c) ≡ false
-  below_tested j l g = refuted _ (λ t. omega (arith, below_at n (tab f c) t j (omega (arith, length_tab f c)), getD_tab f c j 0 l))
+  below_tested j l g = refuted _ (λ t. omega (arith, below_at n (tab f c) t j (omega (arith, length_tab f c)), get_or_tab f c j 0 l))
 
   -- and one that does not pass has such a value
   below_told : all_below n (tab f c) ≡ false → (j : ℕ) × (j < c) × (n ≤ f j)
@@ -39,14 +39,14 @@ module _ (n : ℕ) (f : ℕ → ℕ) (c : ℕ) where
   below_told b =
       let w = every_fails (length (tab f c)) (λ i. ltb (get_or (tab f c) i 0) n) b in
       let l : w.0 < c = omega (arith, w.1, length_tab f c) in
-      (w.0, l, omega (arith, ltb-false _ n w.2, getD_tab f c w.0 0 l))
+      (w.0, l, omega (arith, ltb-false _ n w.2, get_or_tab f c w.0 0 l))
 
 module _ (f : ℕ → ℕ) (c : ℕ) where
   -- a table with two values that are the same does not pass as different
   different_tested : (i j : ℕ) → i < j → j < c → f i ≡ f j → different (tab f c) ≡ false
   different_tested i j l h e =
       let low : i < c = omega arith in
-      let same : get_or (tab f c) i 0 ≡ get_or (tab f c) j 0 = getD_tab f c i 0 low ∙ e ∙ sym (getD_tab f c j 0 h) in
+      let same : get_or (tab f c) i 0 ≡ get_or (tab f c) j 0 = get_or_tab f c i 0 low ∙ e ∙ sym (get_or_tab f c j 0 h) in
       refuted _ (λ t. omega (arith, different_at (tab f c) t i j (omega (arith, length_tab f c)) (omega (arith, length_tab f c)) same))
 
   -- and one that does not pass has two such values
@@ -57,7 +57,7 @@ module _ (f : ℕ → ℕ) (c : ℕ) where
       let v = every_fails w.0 (λ j. not (eqb (get_or (tab f c) w.0 0) (get_or (tab f c) j 0))) w.2 in
       let h : w.0 < c = omega (arith, w.1, length_tab f c) in
       let low : v.0 < c = omega (arith, v.1) in
-      (v.0, w.0, v.1, h, sym (getD_tab f c v.0 0 low) ∙ sym (eqb-true _ _ (not-false _ v.2)) ∙ getD_tab f c w.0 0 h)
+      (v.0, w.0, v.1, h, sym (get_or_tab f c v.0 0 low) ∙ sym (eqb-true _ _ (not-false _ v.2)) ∙ get_or_tab f c w.0 0 h)
 
 module _ (S : ℕ) (img : List ℕ) (h : Header) (n k d : ℕ) where
   -- the DIFAT sectors

@@ -10,7 +10,7 @@ use borrow.Rule.Slice.PartMut.{put_mid}
 use lib.ListN.{length, get_or, take, drop, replicate, length-take, length-drop, length-replicate}
 use Rattle.lists.specs.Lists.{splice}
 use Rattle.lists.proofs.Cases.{below_or, same_or}
-use Rattle.lists.proofs.Splice.{length_part, putMid_splice}
+use Rattle.lists.proofs.Splice.{length_part, put_mid_splice}
 use Rattle.sectors.specs.Sectors.{start_of, sector_of}
 use Rattle.chain.specs.Bytes.{chain_bytes}
 use Rattle.stores.specs.Stores.{write_bytes, tail_of, zero_tail, Writable, Outside}
@@ -24,7 +24,7 @@ pub zeroed_run : (sector out : List ℕ) (x : ℕ) → x ≤ length sector → o
 zeroed_run sector out x h e =
     let lent : length (take (length sector - x) (drop x sector)) ≡ length sector - x = simp (length-take, length-drop) (omega arith) in
     let same : out ≡ replicate (length sector - x) 0 = e ∙ ap (λ (k : ℕ). replicate k 0) lent in
-    putMid_splice x (length sector - x) sector out (ap length same ∙ length-replicate {A = ℕ} (length sector - x) 0) ∙ ap (splice sector x) same
+    put_mid_splice x (length sector - x) sector out (ap length same ∙ length-replicate {A = ℕ} (length sector - x) 0) ∙ ap (splice sector x) same
 
 -- a sector that was lent and comes back with zeros from x on
 pub zeros_back : (S id x : ℕ) (img out : List ℕ) → start_of S id + S ≤ length img → x ≤ S

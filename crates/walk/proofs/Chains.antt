@@ -7,7 +7,7 @@ use native.Mathlib.Omega.{arith}
 use lib.ListN.{length, get_or, drop, length-drop, get_or-eq_default}
 use lib.Seq.{get_or-drop}
 use Rattle.lists.proofs.Cases.{below_or}
-use Rattle.lists.proofs.Tab.{length_tab, getD_tab, is_tab}
+use Rattle.lists.proofs.Tab.{length_tab, get_or_tab, is_tab}
 use Rattle.consts.specs.Consts.{max_regular, end_of_chain}
 use Rattle.walk.specs.Walk.{lists, walk_of}
 use Rattle.walk.specs.Steps.{stepped, Path, Sectors, Linked, Once, Unpointed}
@@ -29,7 +29,7 @@ module _ {fat : List ℕ} {start : ℕ} {ids : List ℕ} (w : Ended fat start id
   ended_at : (j : ℕ) → j < length ids → get_or ids j 0 ≡ stepped fat start j
   ended_at j h =
       let l : j < w.steps = rw ended_length at h in
-      ap (λ (x : List ℕ). get_or x j 0) w.met ∙ getD_tab (stepped fat start) w.steps j 0 l
+      ap (λ (x : List ℕ). get_or x j 0) w.met ∙ get_or_tab (stepped fat start) w.steps j 0 l
 
   ended_to : (j : ℕ) → j ≤ length ids → get_or ids j end_of_chain ≡ stepped fat start j
   ended_to j h =

@@ -9,7 +9,7 @@ use borrow.Author.Tests.{le-leb, lt-leb, eq-eqb, ne_eqb}
 use lib.ListN.{length, get_or}
 use Rattle.lists.specs.Lists.{choose}
 use Rattle.lists.proofs.Cases.{below_or, same_or, true_or, not_both}
-use Rattle.lists.proofs.Tab.{length_tab, getD_tab}
+use Rattle.lists.proofs.Tab.{length_tab, get_or_tab}
 use Rattle.consts.specs.Consts.{max_regular}
 use Rattle.judge.specs.Judge.{regular, forgiven, pointed, wrong_at, first_wrong, forgiven_fat}
 use Rattle.judge.proofs.Judging.{pointed_by, forgiven_low, forgiven_kind, forgiven_high}
@@ -61,7 +61,7 @@ once_judged strict n fat few w = record { once = λ i j hi hj r low e. same i j 
     long = length_tab (λ i. forgiven n (get_or fat i 0)) n
 
     at : (i : ℕ) → i < n → get_or (forgiven_fat n fat) i 0 ≡ forgiven n (get_or fat i 0)
-    at i h = getD_tab (λ k. forgiven n (get_or fat k 0)) n i 0 h
+    at i h = get_or_tab (λ k. forgiven n (get_or fat k 0)) n i 0 h
 
     later : (i j : ℕ) → i < j → j < n → get_or fat j 0 < n → get_or fat i 0 ≡ get_or fat j 0 → ⊥
     later i j l h low e =

@@ -9,21 +9,21 @@ use Rattle.lines.proofs.put_counts.Goals as goal
 use Rattle.lines.proofs.put_counts.Goals.{Start}
 
 -- each count with its word is short
-sectors-short : (c : Start) → length (counted sectors_word c.args.sectors) ≤ 28
-sectors-short c = counted_fit sectors_word _ (omega arith)
+sectors_short : (c : Start) → length (counted sectors_word c.args.sectors) ≤ 28
+sectors_short c = counted_fit sectors_word _ (omega arith)
 
-free-short : (c : Start) → length (counted free_word c.args.free) ≤ 26
-free-short c = counted_fit free_word _ (omega arith)
+free_short : (c : Start) → length (counted free_word c.args.free) ≤ 26
+free_short c = counted_fit free_word _ (omega arith)
 
 pub put_counted-b-requires : goal.put_counted-b-requires
 put_counted-b-requires c =
     let passed = goal.at.put_counted-b-requires c in
-    omega (arith, c.put_counted-a.ensures, sectors-short passed.Start)
+    omega (arith, c.put_counted-a.ensures, sectors_short passed.Start)
 
 pub put_word-requires : goal.put_word-requires
 put_word-requires c =
     let passed = goal.at.put_word-requires c in
-    omega (arith, c.put_counted-b.ensures, c.put_counted-a.ensures, sectors-short passed.Start, free-short passed.Start)
+    omega (arith, c.put_counted-b.ensures, c.put_counted-a.ensures, sectors_short passed.Start, free_short passed.Start)
 
 pub returns : goal.returns
 returns c =

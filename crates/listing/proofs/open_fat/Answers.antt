@@ -16,13 +16,13 @@ abbrev lent : After-open-opened → Tables
 lent c = record { fat = c.args.fat.now; fats = replicate 128 0; difats = replicate 128 0; frees = replicate 128 0; marks = replicate 128 0 }
 
 -- each of them has 128 elements
-fat-whole : (c : After-open-opened) → length (lent c).fat ≡ 128
-fat-whole c = omega arith
+fat_whole : (c : After-open-opened) → length (lent c).fat ≡ 128
+fat_whole c = omega arith
 
 all_whole : (c : After-open-opened) → shortest (lent c) ≡ 128
-all_whole c = shortest_is (lent c) (fat-whole c) (omega arith) (omega arith) (omega arith) (omega arith)
+all_whole c = shortest_is (lent c) (fat_whole c) (omega arith) (omega arith) (omega arith) (omega arith)
 
 pub returns : goal.returns
 returns c =
     let passed = goal.at.returns c in
-    opened_fat (img passed.After-open-opened) _ (lent passed.After-open-opened) _ _ c.requires (fat-whole passed.After-open-opened) (all_whole passed.After-open-opened) c.open-opened.ensures
+    opened_fat (img passed.After-open-opened) _ (lent passed.After-open-opened) _ _ c.requires (fat_whole passed.After-open-opened) (all_whole passed.After-open-opened) c.open-opened.ensures

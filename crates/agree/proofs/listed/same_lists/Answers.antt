@@ -7,8 +7,8 @@ use Rattle.agree.proofs.listed.same_lists.Goals as goal
 use Rattle.agree.proofs.listed.same_lists.Goals.{After-list-2-1}
 
 -- the header's list has its 109 entries
-entries-there : (c : After-list-2-1) → length c.args.h.list ≡ 109
-entries-there c = search rules
+entries_there : (c : After-list-2-1) → length c.args.h.list ≡ 109
+entries_there c = search rules
 
 pub returns-then-not-counts_right : goal.returns-then-not-counts_right
 returns-then-not-counts_right c = lists_counts _ _ _ _ _ _ _ _ c.requires (sym c.counts_right.ensures ∙ c.if-not-counts_right.true)
@@ -23,7 +23,7 @@ returns-then-not-same_difats c =
 pub same_fats-requires : goal.same_fats-requires
 same_fats-requires c =
     let passed = goal.at.same_fats-requires c in
-    lists_places c.args.s c.args.image.now c.args.h c.args.n c.args.fats.now c.args.difats.now _ _ c.requires _ c.same_difats.ensures _ _ (entries-there passed.After-list-2-1) c.same_difats.auto.scratch (c.if-not-same_difats.false)
+    lists_places c.args.s c.args.image.now c.args.h c.args.n c.args.fats.now c.args.difats.now _ _ c.requires _ c.same_difats.ensures _ _ (entries_there passed.After-list-2-1) c.same_difats.auto.scratch (c.if-not-same_difats.false)
 
 pub returns : goal.returns
 returns c =

@@ -24,8 +24,8 @@ passed c =
     sym first ∙ c.if-no-ne0.false
 
 -- the header that was handed in is the one that was read
-own-header : (c : Else-not-same_header) → same_header c.args.h c.judge_early-early.result.header ≡ true
-own-header c = sym c.same_header.ensures ∙ c.if-not-same_header.false
+own_header : (c : Else-not-same_header) → same_header c.args.h c.judge_early-early.result.header ≡ true
+own_header c = sym c.same_header.ensures ∙ c.if-not-same_header.false
 
 pub returns-then-no-ne0 : goal.returns-then-no-ne0
 returns-then-no-ne0 c =
@@ -51,10 +51,10 @@ pub same_whole-requires : goal.same_whole-requires
 same_whole-requires c =
     let at = goal.at.same_whole-requires c in
     let says = c.judge_early-early.ensures in
-    agree_lent _ _ _ c.args.sectors _ _ (tables at.Start) (passed at.Else-no-ne0) _ _ _ _ (early_len says c.if-no-ne0.false) (early_sectors says c.if-no-ne0.false) (early_own says c.if-no-ne0.false) (own-header at.Else-not-same_header) c.if-n-free.false c.requires
+    agree_lent _ _ _ c.args.sectors _ _ (tables at.Start) (passed at.Else-no-ne0) _ _ _ _ (early_len says c.if-no-ne0.false) (early_sectors says c.if-no-ne0.false) (early_own says c.if-no-ne0.false) (own_header at.Else-not-same_header) c.if-n-free.false c.requires
 
 pub returns : goal.returns
 returns c =
     let at = goal.at.returns c in
     let says = c.judge_early-early.ensures in
-    agree_told _ _ _ _ _ _ (tables at.Start) (passed at.Else-no-ne0) _ _ _ _ _ c.is_strict-strict.ensures (early_len says c.if-no-ne0.false) (early_sectors says c.if-no-ne0.false) (early_own says c.if-no-ne0.false) (own-header at.Else-not-same_header) c.if-sectors-n.false c.same_whole.ensures
+    agree_told _ _ _ _ _ _ (tables at.Start) (passed at.Else-no-ne0) _ _ _ _ _ c.is_strict-strict.ensures (early_len says c.if-no-ne0.false) (early_sectors says c.if-no-ne0.false) (early_own says c.if-no-ne0.false) (own_header at.Else-not-same_header) c.if-sectors-n.false c.same_whole.ensures

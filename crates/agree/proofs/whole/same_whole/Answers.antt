@@ -16,16 +16,16 @@ use Rattle.agree.proofs.whole.same_whole.Goals.{After-ceil-d, Start}
 abbrev tables : Start → Tables
 tables c = record { fat = c.args.fat.now; fats = c.args.fats.now; difats = c.args.difats.now; frees = c.args.frees.now; marks = c.args.marks.now }
 
-count-fats : (c : After-ceil-d) → c.ceil-k.result ≡ fat_count c.args.s c.args.n
+count_fats : (c : After-ceil-d) → c.ceil-k.result ≡ fat_count c.args.s c.args.n
 unfolding fat_count
-count-fats c = c.ceil-k.ensures
+count_fats c = c.ceil-k.ensures
 
-count-difats : (c : After-ceil-d) → c.ceil-d.result ≡ difat_count c.args.s c.ceil-k.result
+count_difats : (c : After-ceil-d) → c.ceil-d.result ≡ difat_count c.args.s c.ceil-k.result
 unfolding difat_count
-count-difats c = c.ceil-d.ensures ∙ ap (λ (k : ℕ). ceil k (per_sector c.args.s - 1)) c.past_header.ensures
+count_difats c = c.ceil-d.ensures ∙ ap (λ (k : ℕ). ceil k (per_sector c.args.s - 1)) c.past_header.ensures
 
 counted : (c : After-ceil-d) → Counted c.args.s c.args.n (length c.args.image.now) c.ceil-k.result c.ceil-d.result
-counted c = lent_counted _ _ _ _ _ _ _ _ _ _ c.requires.lent (count-fats c) (count-difats c)
+counted c = lent_counted _ _ _ _ _ _ _ _ _ _ c.requires.lent (count_fats c) (count_difats c)
 
 -- the fronts lie within the tables
 fats_fit : (c : After-ceil-d) → c.ceil-k.result ≤ length c.args.fats.now
@@ -44,7 +44,7 @@ ceil-d-requires c =
 pub returns-then-not-tails_zero : goal.returns-then-not-tails_zero
 returns-then-not-tails_zero c =
     let passed = goal.at.returns-then-not-tails_zero c in
-    whole_tails _ _ _ _ _ _ _ _ (tables passed.Start) (count-fats passed.After-ceil-d) (count-difats passed.After-ceil-d) (sym c.tails_zero.ensures ∙ c.if-not-tails_zero.true)
+    whole_tails _ _ _ _ _ _ _ _ (tables passed.Start) (count_fats passed.After-ceil-d) (count_difats passed.After-ceil-d) (sym c.tails_zero.ensures ∙ c.if-not-tails_zero.true)
 
 pub slice_bounds-same_tables-end : goal.slice_bounds-same_tables-end
 slice_bounds-same_tables-end c = sym (length-take-le _ _ c.requires.lent.fat_long)
@@ -70,7 +70,7 @@ same_tables-requires c =
 pub returns-then-not-same_tables : goal.returns-then-not-same_tables
 returns-then-not-same_tables c =
     let passed = goal.at.returns-then-not-same_tables c in
-    whole_tables _ _ _ _ _ _ _ _ (tables passed.Start) (count-fats passed.After-ceil-d) (count-difats passed.After-ceil-d) _ (length-take-le _ _ c.requires.lent.fat_long) (sym c.same_tables.ensures ∙ c.if-not-same_tables.true)
+    whole_tables _ _ _ _ _ _ _ _ (tables passed.Start) (count_fats passed.After-ceil-d) (count_difats passed.After-ceil-d) _ (length-take-le _ _ c.requires.lent.fat_long) (sym c.same_tables.ensures ∙ c.if-not-same_tables.true)
 
 pub slice_bounds-same_frees-end : goal.slice_bounds-same_frees-end
 slice_bounds-same_frees-end c = sym (length-take-le _ _ c.requires.lent.fat_long)
@@ -88,5 +88,5 @@ same_frees-requires c =
 pub returns : goal.returns
 returns c =
     let passed = goal.at.returns c in
-    whole_told _ _ _ _ _ _ _ _ (tables passed.Start) (count-fats passed.After-ceil-d) (count-difats passed.After-ceil-d) _ (length-take-le _ _ c.requires.lent.fat_long) (frees_fit passed.After-ceil-d) (sym c.tails_zero.ensures ∙ c.if-not-tails_zero.false)
+    whole_told _ _ _ _ _ _ _ _ (tables passed.Start) (count_fats passed.After-ceil-d) (count_difats passed.After-ceil-d) _ (length-take-le _ _ c.requires.lent.fat_long) (frees_fit passed.After-ceil-d) (sym c.tails_zero.ensures ∙ c.if-not-tails_zero.false)
     (sym c.same_tables.ensures ∙ c.if-not-same_tables.false) _ c.same_frees.ensures

@@ -55,8 +55,8 @@ count c =
     ∙ ap (λ (h : Header). length_of h.version) (read_header _ _ _ c.read_from-read.ensures read) in
     ap (λ (s : ℕ). c.args.used / s - 1) length_is
 
-room-is : (c : After-room) → let img : List ℕ = c.args.image.now in let S : ℕ = length_of (header_of img).version in c.room.result ≡ room_of S (length img)
-room-is c =
+room_is : (c : After-room) → let img : List ℕ = c.args.image.now in let S : ℕ = length_of (header_of img).version in c.room.result ≡ room_of S (length img)
+room_is c =
     let img : List ℕ = c.args.image.now in
     let read : read_no c.args.validation img ≡ 0 = sym (c.number-no.ensures ∙ c.read_from-read.ensures.number) ∙ c.if-no-ne0.false in
     let S : ℕ = length_of (header_of img).version in
@@ -104,13 +104,13 @@ pub returns-then-short-room : goal.returns-then-short-room
 returns-then-short-room c =
     let passed = goal.at.returns-then-short-room c in
     early_no _ _ _ _ 11 _ c.stopped-then-short-room.ensures (omega arith)
-    (early_short _ _ _ _ c.if-used-lt-HEADER_LEN.false c.if-image-used.false (read passed.Else-no-ne0) (whole passed.Else-used-s-ne0) (rw (count passed.Else-used-s-ne0) at c.if-n-gt-MOST.false) (rw (room-is passed.After-room) at c.if-short-room.true))
+    (early_short _ _ _ _ c.if-used-lt-HEADER_LEN.false c.if-image-used.false (read passed.Else-no-ne0) (whole passed.Else-used-s-ne0) (rw (count passed.Else-used-s-ne0) at c.if-n-gt-MOST.false) (rw (room_is passed.After-room) at c.if-short-room.true))
 
 pub returns : goal.returns
 returns c =
     let passed = goal.at.returns c in
     record {
-      number = early_passed _ _ _ _ c.if-used-lt-HEADER_LEN.false c.if-image-used.false (read passed.Else-no-ne0) (whole passed.Else-used-s-ne0) (rw (count passed.Else-used-s-ne0) at c.if-n-gt-MOST.false) (rw (room-is passed.After-room) at c.if-short-room.false);
+      number = early_passed _ _ _ _ c.if-used-lt-HEADER_LEN.false c.if-image-used.false (read passed.Else-no-ne0) (whole passed.Else-used-s-ne0) (rw (count passed.Else-used-s-ne0) at c.if-n-gt-MOST.false) (rw (room_is passed.After-room) at c.if-short-room.false);
       len = length_is passed.After-sector_len-s;
       sectors = count passed.Else-used-s-ne0;
       header = read_header _ _ _ c.read_from-read.ensures (read passed.Else-no-ne0);

@@ -13,16 +13,16 @@ use Rattle.alloc.proofs.open.fill_tables.Goals as goal
 use Rattle.alloc.proofs.open.fill_tables.Goals.{After-ceil-d}
 
 -- the counts that the code computes are those that n sectors ask for
-count-fats : (c : After-ceil-d) → c.ceil-k.result ≡ fat_count c.args.s c.args.n
+count_fats : (c : After-ceil-d) → c.ceil-k.result ≡ fat_count c.args.s c.args.n
 unfolding fat_count
-count-fats c = c.ceil-k.ensures
+count_fats c = c.ceil-k.ensures
 
-count-difats : (c : After-ceil-d) → c.ceil-d.result ≡ difat_count c.args.s c.ceil-k.result
+count_difats : (c : After-ceil-d) → c.ceil-d.result ≡ difat_count c.args.s c.ceil-k.result
 unfolding difat_count
-count-difats c = c.ceil-d.ensures ∙ ap (λ (k : ℕ). ceil k (per_sector c.args.s - 1)) c.past_header.ensures
+count_difats c = c.ceil-d.ensures ∙ ap (λ (k : ℕ). ceil k (per_sector c.args.s - 1)) c.past_header.ensures
 
 counted : (c : After-ceil-d) → Counted c.args.s c.args.n (length c.args.image.now) c.ceil-k.result c.ceil-d.result
-counted c = zeroed_counted _ _ _ _ _ _ _ _ _ _ c.requires (count-fats c) (count-difats c)
+counted c = zeroed_counted _ _ _ _ _ _ _ _ _ _ c.requires (count_fats c) (count_difats c)
 
 -- so many sectors' ids fit into the lent lists
 fats_fit : (c : After-ceil-d) → c.ceil-k.result ≤ length c.args.fats.now
@@ -74,4 +74,4 @@ load_tables-requires c =
 pub returns : goal.returns
 returns c =
     let passed = goal.at.returns c in
-    filled _ _ _ _ _ _ _ _ _ _ _ _ _ _ _ _ _ _ _ c.requires (length-take-le _ _ c.requires.fat_long) (count-fats passed.After-ceil-d) (count-difats passed.After-ceil-d) c.load_tables.ensures
+    filled _ _ _ _ _ _ _ _ _ _ _ _ _ _ _ _ _ _ _ c.requires (length-take-le _ _ c.requires.fat_long) (count_fats passed.After-ceil-d) (count_difats passed.After-ceil-d) c.load_tables.ensures

@@ -47,8 +47,8 @@ judged c =
     c.edit_listed-walked.ensures listing
 
 -- the count is that of the listing, and the change can be made
-walked-is : (c : After-len_of-s) → c.edit_listed-walked.result ≡ Listed c.in-Listed.count
-walked-is c = c.in-Listed.is
+walked_is : (c : After-len_of-s) → c.edit_listed-walked.result ≡ Listed c.in-Listed.count
+walked_is c = c.in-Listed.is
 
 ready : (c : After-len_of-s) → let state : State = c.args.self in let tables : Tables = record { fat = c.args.fat.now; fats = c.args.fats.now; difats = c.args.difats.now; frees = c.args.frees.now; marks = c.args.marks.now } in FitsEdit (state_len state) (room_of (state_len state) (length c.args.image.now)) c.args.edit (length c.args.buf.now)
     (chain_from state c.args.image.now tables (length c.args.ids.now) c.args.start)
@@ -66,7 +66,7 @@ ready c =
     } in
     let judged : Judged (edit_no state c.args.image.now tables (length c.args.ids.now) c.args.start c.args.edit (length c.args.buf.now)) c.args.ids.now
     (chain_ids state tables c.args.start) c.edit_listed-walked.result c.edit_listed-walked.new.ids = c.edit_listed-walked.ensures listing in
-    edit_ready state _ tables _ _ _ _ (judged_zero _ _ _ _ _ judged _ (walked-is c))
+    edit_ready state _ tables _ _ _ _ (judged_zero _ _ _ _ _ judged _ (walked_is c))
 
 pub edit_listed-walked-requires : goal.edit_listed-walked-requires
 edit_listed-walked-requires c =
@@ -81,12 +81,12 @@ returns-in_default c =
 pub change-changed-requires : goal.change-changed-requires
 change-changed-requires c =
     let passed = goal.at.change-changed-requires c in
-    edit_own c.args.image.now _ _ c.len_of-s.ensures (judged_chain (state passed.After-change_of-listed) _ (tables passed.After-change_of-listed) _ c.args.start _ _ _ (judged passed.After-edit_listed-walked) _ (walked-is passed.After-len_of-s)) (ready passed.After-len_of-s)
+    edit_own c.args.image.now _ _ c.len_of-s.ensures (judged_chain (state passed.After-change_of-listed) _ (tables passed.After-change_of-listed) _ c.args.start _ _ _ (judged passed.After-edit_listed-walked) _ (walked_is passed.After-len_of-s)) (ready passed.After-len_of-s)
 
 pub done_with-requires : goal.done_with-requires
 done_with-requires c =
     let passed = goal.at.done_with-requires c in
-    made_lies _ _ _ _ (c.change-changed.ensures ∙ edited_own c.args.edit c.args.buf.now c.len_of-s.ensures (judged_chain (state passed.After-change_of-listed) _ (tables passed.After-change_of-listed) _ c.args.start _ _ _ (judged passed.After-edit_listed-walked) _ (walked-is passed.After-len_of-s))) (edited_fits _ _ _ c.args.buf.now _ (ready passed.After-len_of-s))
+    made_lies _ _ _ _ (c.change-changed.ensures ∙ edited_own c.args.edit c.args.buf.now c.len_of-s.ensures (judged_chain (state passed.After-change_of-listed) _ (tables passed.After-change_of-listed) _ c.args.start _ _ _ (judged passed.After-edit_listed-walked) _ (walked_is passed.After-len_of-s))) (edited_fits _ _ _ c.args.buf.now _ (ready passed.After-len_of-s))
 
 pub shape_of-ids : goal.shape_of-ids
 shape_of-ids c =
@@ -96,4 +96,4 @@ shape_of-ids c =
 pub returns : goal.returns
 returns c =
     let passed = goal.at.returns c in
-    changes_made _ _ (tables passed.After-change_of-listed) _ _ _ _ _ _ _ _ c.change-changed.result (judged_zero _ _ _ _ _ (judged passed.After-edit_listed-walked) _ (walked-is passed.After-len_of-s)) (c.change-changed.ensures ∙ edited_own c.args.edit c.args.buf.now c.len_of-s.ensures (judged_chain (state passed.After-change_of-listed) _ (tables passed.After-change_of-listed) _ c.args.start _ _ _ (judged passed.After-edit_listed-walked) _ (walked-is passed.After-len_of-s))) c.done_with.ensures
+    changes_made _ _ (tables passed.After-change_of-listed) _ _ _ _ _ _ _ _ c.change-changed.result (judged_zero _ _ _ _ _ (judged passed.After-edit_listed-walked) _ (walked_is passed.After-len_of-s)) (c.change-changed.ensures ∙ edited_own c.args.edit c.args.buf.now c.len_of-s.ensures (judged_chain (state passed.After-change_of-listed) _ (tables passed.After-change_of-listed) _ c.args.start _ _ _ (judged passed.After-edit_listed-walked) _ (walked_is passed.After-len_of-s))) c.done_with.ensures

@@ -21,14 +21,14 @@ abbrev tables : After-room_of → Tables
 tables c = record { fat = c.args.fat.now; fats = c.args.fats.now; difats = c.args.difats.now; frees = c.args.frees.now; marks = c.args.marks.now }
 
 -- the shortest of all, and the room, are those of the row
-short-is : (c : After-room_of) → c.lesser-short.result ≡ min (shortest (tables c)) (length c.args.ids.now)
-short-is c = c.lesser-short.ensures.2 ∙ ap (λ (n : ℕ). min n (length c.args.ids.now)) c.shortest.ensures
+short_is : (c : After-room_of) → c.lesser-short.result ≡ min (shortest (tables c)) (length c.args.ids.now)
+short_is c = c.lesser-short.ensures.2 ∙ ap (λ (n : ℕ). min n (length c.args.ids.now)) c.shortest.ensures
 
 long_enough : (c : After-agrees) → let state : State = c.args.s in let tables : Tables = record { fat = c.args.fat.now; fats = c.args.fats.now; difats = c.args.difats.now; frees = c.args.frees.now; marks = c.args.marks.now } in ltb (min (shortest tables) (length c.args.ids.now)) (room_of (state_len state) (length c.args.image.now)) ≡ false
 long_enough c =
     let tables : Tables = record { fat = c.args.fat.now; fats = c.args.fats.now; difats = c.args.difats.now; frees = c.args.frees.now; marks = c.args.marks.now } in
-    let short-is : c.lesser-short.result ≡ min (shortest tables) (length c.args.ids.now) = c.lesser-short.ensures.2 ∙ ap (λ (n : ℕ). min n (length c.args.ids.now)) c.shortest.ensures in
-    room_long short-is c.room_of.ensures c.if-short-room_of.false
+    let short_is : c.lesser-short.result ≡ min (shortest tables) (length c.args.ids.now) = c.lesser-short.ensures.2 ∙ ap (λ (n : ℕ). min n (length c.args.ids.now)) c.shortest.ensures in
+    room_long short_is c.room_of.ensures c.if-short-room_of.false
 
 list_kept : (c : After-agrees) → length c.agrees.new.scratch ≡ length c.args.ids.now
 list_kept c = c.agrees.auto.scratch
@@ -45,7 +45,7 @@ walkable c e =
 pub returns-then-short-room_of : goal.returns-then-short-room_of
 returns-then-short-room_of c =
     let passed = goal.at.returns-then-short-room_of c in
-    listed_short _ _ (tables passed.After-room_of) _ _ (room_short (short-is passed.After-room_of) c.room_of.ensures c.if-short-room_of.true)
+    listed_short _ _ (tables passed.After-room_of) _ _ (room_short (short_is passed.After-room_of) c.room_of.ensures c.if-short-room_of.true)
 
 pub returns-then-not-agrees : goal.returns-then-not-agrees
 returns-then-not-agrees c =

@@ -37,8 +37,8 @@ not_19 c e =
 list_kept : (c : After-is_strict) → length c.chain_of-walked.new.ids ≡ length c.args.ids.now
 list_kept c = c.chain_of-walked.auto.ids
 
-change-is : (c : After-is_marked) → let tables : Tables = record { fat = c.args.fat.now; fats = c.args.fats.now; difats = c.args.difats.now; frees = c.args.frees.now; marks = c.args.marks.now } in change_no c.args.s c.args.image.now tables (length c.args.ids.now) c.args.start ≡ choose c.is_marked.result 25 0
-change-is c =
+change_is : (c : After-is_marked) → let tables : Tables = record { fat = c.args.fat.now; fats = c.args.fats.now; difats = c.args.difats.now; frees = c.args.frees.now; marks = c.args.marks.now } in change_no c.args.s c.args.image.now tables (length c.args.ids.now) c.args.start ≡ choose c.is_marked.result 25 0
+change_is c =
     let tables : Tables = record { fat = c.args.fat.now; fats = c.args.fats.now; difats = c.args.difats.now; frees = c.args.frees.now; marks = c.args.marks.now } in
     let told : chain_no c.args.s c.args.image.now tables (length c.args.ids.now) c.args.start ≡ c.number_of-no.result = listed_number _ _ tables _ _ _ _ c.chain_of-walked.ensures _ c.number_of-no.ensures in
     let not_19 : chain_no c.args.s c.args.image.now tables (length c.args.ids.now) c.args.start ≢ 19 = λ e. c.if-no-eq19.false (sym told ∙ e) in
@@ -72,11 +72,11 @@ returns-then-no-ne0 c =
 pub returns-then-is_marked : goal.returns-then-is_marked
 returns-then-is_marked c =
     let passed = goal.at.returns-then-is_marked c in
-    change_refused _ _ (tables passed.After-chain_of-walked) _ _ 25 _ (change-is passed.After-is_marked ∙ ap (λ (b : Bool). choose b 25 0) c.if-is_marked.true) (λ z. omega arith) (λ z. omega arith)
+    change_refused _ _ (tables passed.After-chain_of-walked) _ _ 25 _ (change_is passed.After-is_marked ∙ ap (λ (b : Bool). choose b 25 0) c.if-is_marked.true) (λ z. omega arith) (λ z. omega arith)
     (c.fill32-then-is_marked.ensures ∙ ap (λ (n : ℕ). replicate n 0) (list_kept passed.After-is_strict))
 
 pub returns : goal.returns
 returns c =
     let passed = goal.at.returns c in
     change_same _ _ (tables passed.After-chain_of-walked) _ _ _ _ c.chain_of-walked.ensures
-    (change-is passed.After-is_marked ∙ ap (λ (b : Bool). choose b 25 0) c.if-is_marked.false ∙ sym (told passed.After-number_of-no ∙ c.if-no-ne0.false))
+    (change_is passed.After-is_marked ∙ ap (λ (b : Bool). choose b 25 0) c.if-is_marked.false ∙ sym (told passed.After-number_of-no ∙ c.if-no-ne0.false))

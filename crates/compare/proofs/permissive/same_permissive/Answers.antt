@@ -10,8 +10,8 @@ use Rattle.compare.proofs.permissive.same_permissive.Goals.{After-load_fat}
 long : (c : After-load_fat) → length c.load_fat.new.fat ≡ length c.args.fat.now
 long c = c.load_fat.auto.fat ∙ c.requires.room_len
 
-raw-is : (c : After-load_fat) → c.load_fat.new.fat ≡ fat_of c.args.s c.args.image.now c.args.fats.now (length c.args.fat.now)
-raw-is c = c.load_fat.ensures ∙ ap (fat_of c.args.s c.args.image.now c.args.fats.now) c.requires.room_len
+raw_is : (c : After-load_fat) → c.load_fat.new.fat ≡ fat_of c.args.s c.args.image.now c.args.fats.now (length c.args.fat.now)
+raw_is c = c.load_fat.ensures ∙ ap (fat_of c.args.s c.args.image.now c.args.fats.now) c.requires.room_len
 
 pub set_listed-requires : goal.set_listed-requires
 set_listed-requires c =
@@ -21,4 +21,4 @@ set_listed-requires c =
 pub returns : goal.returns
 returns c =
     let passed = goal.at.returns c in
-    permissive_told _ _ _ _ _ _ _ (raw-is passed.After-load_fat) c.set_listed.ensures c.is_forgiven.ensures
+    permissive_told _ _ _ _ _ _ _ (raw_is passed.After-load_fat) c.set_listed.ensures c.is_forgiven.ensures

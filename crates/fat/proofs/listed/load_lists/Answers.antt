@@ -8,8 +8,8 @@ use Rattle.fat.proofs.listed.load_lists.Goals as goal
 use Rattle.fat.proofs.listed.load_lists.Goals.{After-list-2-1}
 
 -- the header's list has its 109 entries
-entries-there : (c : After-list-2-1) → length c.args.h.list ≡ 109
-entries-there c = search rules
+entries_there : (c : After-list-2-1) → length c.args.h.list ≡ 109
+entries_there c = search rules
 
 pub returns-then-not-counts_right : goal.returns-then-not-counts_right
 returns-then-not-counts_right c = lists_not_counts _ _ _ _ _ _ c.requires.counted.fats c.requires.counted.difats _ _ (sym c.counts_right.ensures ∙ c.if-not-counts_right.true)
@@ -25,7 +25,7 @@ returns-then-not-load_difats c =
 pub load_fats-requires : goal.load_fats-requires
 load_fats-requires c =
     let passed = goal.at.load_fats-requires c in
-    let kept = c.load_difats.auto in record { places = places_ready _ _ _ _ _ _ _ _ _ _ c.requires.counted (entries-there passed.After-list-2-1) kept.difats c.load_difats.ensures (c.if-not-load_difats.false); fats_len_bound = (omega (arith, fats_few _ _ _ _ _ c.requires.counted, c.requires.counted.few), omega (arith, kept.scratch, c.requires.n_in_bounds)) }
+    let kept = c.load_difats.auto in record { places = places_ready _ _ _ _ _ _ _ _ _ _ c.requires.counted (entries_there passed.After-list-2-1) kept.difats c.load_difats.ensures (c.if-not-load_difats.false); fats_len_bound = (omega (arith, fats_few _ _ _ _ _ c.requires.counted, c.requires.counted.few), omega (arith, kept.scratch, c.requires.n_in_bounds)) }
 
 pub returns : goal.returns
 returns c =

@@ -13,8 +13,8 @@ use Rattle.fat.proofs.load.load_fat.Goals.{In-loop-p}
 begins : (c : In-loop-p) → c.loop-p.p * per_sector c.args.s < length c.args.fat.now
 begins c = sector_begins _ _ _ _ c.loop-p-test.true c.requires.last
 
-at-id : (c : In-loop-p) → get_or c.args.fats.now c.loop-p.p 0 < c.args.n
-at-id c = below_at _ _ c.requires.below _ c.loop-p-test.true
+at_id : (c : In-loop-p) → get_or c.args.fats.now c.loop-p.p 0 < c.args.n
+at_id c = below_at _ _ c.requires.below _ c.loop-p-test.true
 
 pub loop-p-init : goal.loop-p-init
 loop-p-init c = (omega arith, refl, loaded_none _ _ _ _)
@@ -28,7 +28,7 @@ overflow_add-a c = omega (arith, begins c)
 pub overflow_cast-id : goal.overflow_cast-id
 overflow_cast-id c =
     let passed = goal.at.overflow_cast-id c in
-    omega (arith, at-id passed.In-loop-p)
+    omega (arith, at_id passed.In-loop-p)
 
 pub offset_bounds-fat-a : goal.offset_bounds-fat-a
 offset_bounds-fat-a c =
@@ -51,7 +51,7 @@ slice_bounds-load_at-end c = omega (arith, c.loop-p.invariant.2.same, c.lesser-b
 pub load_at-requires : goal.load_at-requires
 load_at-requires c =
     let passed = goal.at.load_at-requires c in
-    record { s_in_bounds = sector_within _ _ _ _ c.requires.holds (at-id passed.In-loop-p); le_s = (omega (arith, c.requires.holds.two), simp length-take (omega (arith, c.requires.holds.entries, c.lesser-b.ensures))) }
+    record { s_in_bounds = sector_within _ _ _ _ c.requires.holds (at_id passed.In-loop-p); le_s = (omega (arith, c.requires.holds.two), simp length-take (omega (arith, c.requires.holds.entries, c.lesser-b.ensures))) }
 
 pub loop-p-preserved : goal.loop-p-preserved
 loop-p-preserved c =

@@ -16,8 +16,8 @@ sector_at c = (c.args.p - 109) / (per_sector c.args.s - 1)
 index : (c : After-shared_slice_known-1) → 109 ≤ c.args.p → sector_at c < length c.args.difats.now
 index c h = place_index c.args.p _ (per_sector c.args.s - 1) (omega (arith, c.requires.holds.two)) (omega (arith, c.requires.there)) h
 
-at-id : (c : After-shared_slice_known-1) → 109 ≤ c.args.p → get_or c.args.difats.now (sector_at c) 0 < c.args.n
-at-id c h = below_at _ _ c.requires.below _ (index c h)
+at_id : (c : After-shared_slice_known-1) → 109 ≤ c.args.p → get_or c.args.difats.now (sector_at c) 0 < c.args.n
+at_id c h = below_at _ _ c.requires.below _ (index c h)
 
 pub returns-then-p-lt109 : goal.returns-then-p-lt109
 returns-then-p-lt109 c = place_low _ _ _ _ _ c.if-p-lt109.true
@@ -35,12 +35,12 @@ bounds-difats-q c =
 pub overflow_cast-id : goal.overflow_cast-id
 overflow_cast-id c =
     let passed = goal.at.overflow_cast-id c in
-    omega (arith, at-id passed.After-shared_slice_known-1 c.if-p-lt109.false)
+    omega (arith, at_id passed.After-shared_slice_known-1 c.if-p-lt109.false)
 
 pub entry_at-requires : goal.entry_at-requires
 entry_at-requires c =
     let passed = goal.at.entry_at-requires c in
-    record { s_in_bounds = sector_within _ _ _ _ c.requires.holds (at-id passed.After-shared_slice_known-1 c.if-p-lt109.false); j_bound = place_slot _ _ c.requires.holds.entries c.requires.holds.two }
+    record { s_in_bounds = sector_within _ _ _ _ c.requires.holds (at_id passed.After-shared_slice_known-1 c.if-p-lt109.false); j_bound = place_slot _ _ c.requires.holds.entries c.requires.holds.two }
 
 pub returns : goal.returns
 returns c = place_high _ _ _ _ _ _ c.if-p-lt109.false c.entry_at.ensures

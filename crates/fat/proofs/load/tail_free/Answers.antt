@@ -20,8 +20,8 @@ begins c = sector_begins _ (length c.args.fats.now) _ _ (omega (arith, c.if-k-eq
 reaches : (c : Else-k-eq0) → c.args.n ≤ done c + per_sector c.args.s
 reaches c = sector_reaches (length c.args.fats.now) _ _ (omega (arith, c.if-k-eq0.false)) c.requires.enough
 
-at-id : (c : Else-k-eq0) → get_or c.args.fats.now (length c.args.fats.now - 1) 0 < c.args.n
-at-id c = below_at _ _ c.requires.below _ (omega (arith, c.if-k-eq0.false))
+at_id : (c : Else-k-eq0) → get_or c.args.fats.now (length c.args.fats.now - 1) 0 < c.args.n
+at_id c = below_at _ _ c.requires.below _ (omega (arith, c.if-k-eq0.false))
 
 pub returns-then-k-eq0 : goal.returns-then-k-eq0
 returns-then-k-eq0 c = tail_none _ _ _ _ c.if-k-eq0.true
@@ -32,7 +32,7 @@ overflow_mul-done c = omega (arith, begins c, c.requires.small)
 pub overflow_cast-id : goal.overflow_cast-id
 overflow_cast-id c =
     let passed = goal.at.overflow_cast-id c in
-    omega (arith, at-id passed.Else-k-eq0)
+    omega (arith, at_id passed.Else-k-eq0)
 
 pub overflow_sub-n : goal.overflow_sub-n
 overflow_sub-n c =
@@ -52,7 +52,7 @@ overflow_sub-done-2 c =
 pub free_at-requires : goal.free_at-requires
 free_at-requires c =
     let passed = goal.at.free_at-requires c in
-    record { s_in_bounds = sector_within _ _ _ _ c.requires.holds (at-id passed.Else-k-eq0); le_s = (omega (arith, c.requires.holds.two), omega (arith, c.requires.holds.entries, begins passed.Else-k-eq0, reaches passed.Else-k-eq0)) }
+    record { s_in_bounds = sector_within _ _ _ _ c.requires.holds (at_id passed.Else-k-eq0); le_s = (omega (arith, c.requires.holds.two), omega (arith, c.requires.holds.entries, begins passed.Else-k-eq0, reaches passed.Else-k-eq0)) }
 
 pub returns : goal.returns
 returns c =

@@ -21,8 +21,8 @@ looked : (c : After-unreadable) → unreadable c.args.self.list c.args.self.difa
 looked c = sym c.unreadable.ensures
 
 -- the list has its 109 entries
-entries-there : (c : After-list-2-1) → length c.args.self.list ≡ 109
-entries-there c = search rules
+entries_there : (c : After-list-2-1) → length c.args.self.list ≡ 109
+entries_there c = search rules
 
 pub returns-then-buf-lt-HEADER_LEN : goal.returns-then-buf-lt-HEADER_LEN
 returns-then-buf-lt-HEADER_LEN c = says_no _ _ Short (omega arith) (gives_1 _ _ c.if-buf-lt-HEADER_LEN.true)
@@ -41,7 +41,7 @@ pub returns : goal.returns
 returns c =
     let passed = goal.at.returns c in
     says_yes _ _ _
-    (header_stored c.args.self _ _ _ _ c.if-buf-lt-HEADER_LEN.false (entries-there passed.After-list-2-1)
+    (header_stored c.args.self _ _ _ _ c.if-buf-lt-HEADER_LEN.false (entries_there passed.After-list-2-1)
     c.put_start.ensures c.put_numbers.ensures c.put_list.ensures)
     (gives_0 _ _ c.if-buf-lt-HEADER_LEN.false (counted passed.After-counts_dirs ∙ c.if-counts_dirs.false)
     (looked passed.After-unreadable ∙ c.if-unreadable.false))

@@ -12,10 +12,10 @@ use Rattle.judge.proofs.Rows.{judged_same, fat_14, fat_wrong, fat_marks, fat_18,
 use Rattle.judge.proofs.judged.judge_fat.Goals as goal
 use Rattle.judge.proofs.judged.judge_fat.Goals.{After-judge-wrong, Else-unmarked}
 
-none-lacks : (c : Else-unmarked) → both c.args.strict (not (both
+none_lacks : (c : Else-unmarked) → both c.args.strict (not (both
     (all_marked c.args.fat.now c.args.difats.now difat_sector)
     (all_marked c.args.fat.now c.args.fats.now fat_sector))) ≡ false
-none-lacks c = sym c.unmarked.ensures ∙ c.if-unmarked.false
+none_lacks c = sym c.unmarked.ensures ∙ c.if-unmarked.false
 
 judged : (c : After-judge-wrong) → Judged c.args.strict (marked_fat c.args.fat.now c.args.difats.now c.args.fats.now) c.judge-wrong.result c.judge-wrong.new.fat c.judge-wrong.new.marks
 judged c = judged_same _ _ _ _ _ _ c.set_listed.ensures c.judge-wrong.ensures
@@ -30,19 +30,19 @@ judge-wrong-requires c =
 pub returns-then-wrong-ne0 : goal.returns-then-wrong-ne0
 returns-then-wrong-ne0 c =
     let passed = goal.at.returns-then-wrong-ne0 c in
-    fat_wrong _ _ _ _ (none-lacks passed.Else-unmarked) _ _ _ (judged passed.After-judge-wrong) c.if-wrong-ne0.true
+    fat_wrong _ _ _ _ (none_lacks passed.Else-unmarked) _ _ _ (judged passed.After-judge-wrong) c.if-wrong-ne0.true
 
 pub none_dangles-requires : goal.none_dangles-requires
 none_dangles-requires c =
     let passed = goal.at.none_dangles-requires c in
-    fat_marks _ _ _ _ (none-lacks passed.Else-unmarked) _ _ _ (judged passed.After-judge-wrong) c.if-wrong-ne0.false
+    fat_marks _ _ _ _ (none_lacks passed.Else-unmarked) _ _ _ (judged passed.After-judge-wrong) c.if-wrong-ne0.false
 
 pub returns-then-not-none_dangles : goal.returns-then-not-none_dangles
 returns-then-not-none_dangles c =
     let passed = goal.at.returns-then-not-none_dangles c in
-    fat_18 _ _ _ _ (none-lacks passed.Else-unmarked) _ _ _ (judged passed.After-judge-wrong) c.if-wrong-ne0.false _ c.none_dangles.ensures (c.if-not-none_dangles.true)
+    fat_18 _ _ _ _ (none_lacks passed.Else-unmarked) _ _ _ (judged passed.After-judge-wrong) c.if-wrong-ne0.false _ c.none_dangles.ensures (c.if-not-none_dangles.true)
 
 pub returns : goal.returns
 returns c =
     let passed = goal.at.returns c in
-    fat_0 _ _ _ _ (none-lacks passed.Else-unmarked) _ _ _ (judged passed.After-judge-wrong) c.if-wrong-ne0.false _ c.none_dangles.ensures (c.if-not-none_dangles.false)
+    fat_0 _ _ _ _ (none_lacks passed.Else-unmarked) _ _ _ (judged passed.After-judge-wrong) c.if-wrong-ne0.false _ c.none_dangles.ensures (c.if-not-none_dangles.false)

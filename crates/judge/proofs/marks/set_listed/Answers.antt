@@ -1,7 +1,7 @@
 -- `marks::set_listed` meets its contract: two calls, and the length stays.
 use mathlib.Core.Path.{◌∙◌}
 use Rattle.fat.proofs.Differing.{below_kept}
-use Rattle.judge.proofs.Marking.{markedFat_two}
+use Rattle.judge.proofs.Marking.{marked_fat_two}
 use Rattle.judge.proofs.marks.set_listed.Goals as goal
 
 pub set_all-requires : goal.set_all-requires
@@ -14,4 +14,4 @@ pub shape_of-fat : goal.shape_of-fat
 shape_of-fat c = c.set_all-2.auto.fat ∙ c.set_all.auto.fat
 
 pub returns : goal.returns
-returns c = markedFat_two c.args.fat.now _ _ c.args.difats.now c.args.fats.now c.set_all.ensures c.set_all-2.ensures
+returns c = marked_fat_two c.args.fat.now _ _ c.args.difats.now c.args.fats.now c.set_all.ensures c.set_all-2.ensures
