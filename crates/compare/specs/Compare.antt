@@ -8,7 +8,7 @@ use Rattle.judge.specs.Judge.{all_marked, marked_fat, forgiven_fat}
 unfoldable pub entry_kept : ℕ → ℕ → ℕ → Bool
 entry_kept limit own e = both (eqb e own) (either (ltb e limit) (ltb max_regular e))
 
--- `entryKept` holds of every entry i of a FAT in memory, with own i as the image's entry i
+-- `entry_kept` holds of every entry i of a FAT in memory, with own i as the image's entry i
 abbrev pub entries_kept : ℕ → (ℕ → ℕ) → List ℕ → Bool
 entries_kept limit own fat = every (length fat) (λ i. entry_kept limit (own i) (get_or fat i 0))
 

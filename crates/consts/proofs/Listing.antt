@@ -1,4 +1,4 @@
--- The items one by one are the whole short list: what `item_at` gives, place after place, is `prettifyOf`. Assumes nothing.
+-- The items one by one are the whole short list: what `item_at` gives, place after place, is `prettify_of`. Assumes nothing.
 use Prim.Native.Nat.{ℕ, zero, suc, ◌+◌, ◌-◌, ◌≤◌, ◌<◌}
 use mathlib.Core.Path.{◌≡◌, refl, ◌∙◌, sym, ap}
 use mathlib.Core.Bool.{true, false}

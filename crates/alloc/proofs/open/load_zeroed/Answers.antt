@@ -1,4 +1,4 @@
--- A refused loading is that of `fill_tables`; otherwise the FREE sectors are listed into zeros, by `listed-filled`.
+-- A refused loading is that of `fill_tables`; otherwise the FREE sectors are listed into zeros, by `listed_filled`.
 use mathlib.Core.Path.{◌≡◌, sym}
 use native.Mathlib.Omega.{arith}
 use lib.ListN.{length, take}
