@@ -1,9 +1,9 @@
-//! The archive's functions are declared three times over: in crates/export, which is what they are, in the C header and in
+//! The archive's functions are declared three times over: in crates/export_c, which is what they are, in the C header and in
 //! src/ffi.rs. A declaration that differs would be called wrongly, and no compiler sees it; here all three are compared.
 
 use std::collections::BTreeMap;
 
-const LIBRARY: &str = include_str!("../../crates/export/src/lib.rt");
+const LIBRARY: &str = include_str!("../../crates/export_c/src/lib.rt");
 const C_HEADER: &str = include_str!("../../include/rasuvelk.h");
 const PACKAGE: &str = include_str!("../src/ffi.rs");
 
