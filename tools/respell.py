@@ -63,10 +63,10 @@ def kit_names(texts, crates):
 def table(texts, crates):
     """Each old name with its new one."""
     kit = kit_names(texts, crates)
-    specs, lemmas, camels = {}, {}, {}
+    specs, lemmas, camels, aliases = {}, {}, {}, {}
     for path, text in texts.items():
         if path.endswith(".rt"):
-            camels.update((name, snake(name)) for name in re.findall(r" as ([a-z]\w*[A-Z]\w*)", text))
+            aliases.update((name, snake(name)) for name in re.findall(r" as ([a-z]\w*[A-Z]\w*)", text))
         if not path.endswith(".antt"):
             continue
         for word in WORD.findall(bare(text)):
@@ -77,7 +77,7 @@ def table(texts, crates):
             for name in DEFINED.findall(bare(text)):
                 if name not in kit:
                     where[name] = re.sub("-+", "_", snake(name))
-    new = dict(camels)
+    new = {**aliases, **camels}
     # A lemma, and with it a name that the kit's script has turned, gives way to a definition.
     taken = {specs[n] for n in specs} | {camels[n] for n in camels if n not in lemmas}
     for name, to in lemmas.items():

@@ -49,7 +49,7 @@ fn append_difat_sector(
     difats: &mut [u32],
     j: usize,
 )
-    requires fits_one { FitsOne s (room_of s (length image.now)) j (record { image = image.now; fat = fat.old; fats = fats.now; difats = difats.old; sectors = n }) }
+    requires fits_one { FitsOne s (room_of s (length image.old)) j (record { image = image.old; fat = fat.old; fats = fats.now; difats = difats.old; sectors = n }) }
     requires j_in_bounds { j < length difats.old }
     ensures { record { image = image.new; fat = fat.new; fats = fats.now; difats = difats.new; sectors = suc n } ≡ append_difat s (record { image = image.old; fat = fat.old; fats = fats.now; difats = difats.old; sectors = n }) j }
 {
@@ -83,7 +83,7 @@ fn hold_place(
     difats: &mut [u32],
     p: usize,
 ) -> usize
-    requires { (109 ≤ p) × FitsPlace s (room_of s (length image.now)) p (record { image = image.now; fat = fat.old; fats = fats.now; difats = difats.old; sectors = n }) }
+    requires { (109 ≤ p) × FitsPlace s (room_of s (length image.old)) p (record { image = image.old; fat = fat.old; fats = fats.now; difats = difats.old; sectors = n }) }
     ensures { record { image = image.new; fat = fat.new; fats = fats.now; difats = difats.new; sectors = result } ≡ hold_place s (record { image = image.old; fat = fat.old; fats = fats.now; difats = difats.old; sectors = n }) p }
 {
     if !needs_difat(s, p) {
@@ -104,7 +104,7 @@ fn list_place(
     p: usize,
     id: u32,
 ) -> usize
-    requires { FitsPlace s (room_of s (length image.now)) p (record { image = image.now; fat = fat.old; fats = fats.now; difats = difats.old; sectors = n }) }
+    requires { FitsPlace s (room_of s (length image.old)) p (record { image = image.old; fat = fat.old; fats = fats.now; difats = difats.old; sectors = n }) }
     ensures { record { image = image.new; fat = fat.new; fats = fats.now; difats = difats.new; sectors = result } ≡ list_place s (record { image = image.old; fat = fat.old; fats = fats.now; difats = difats.old; sectors = n }) p id }
 {
     if p < 109 {
@@ -127,7 +127,7 @@ fn append_fat_sector(
     fats: &mut [u32],
     difats: &mut [u32],
 ) -> usize
-    requires { FitsFat s (room_of s (length image.now)) (record { image = image.now; fat = fat.old; fats = fats.old; difats = difats.old; sectors = n }) }
+    requires { FitsFat s (room_of s (length image.old)) (record { image = image.old; fat = fat.old; fats = fats.old; difats = difats.old; sectors = n }) }
     ensures { record { image = image.new; fat = fat.new; fats = fats.new; difats = difats.new; sectors = result } ≡ append_fat s (record { image = image.old; fat = fat.old; fats = fats.old; difats = difats.old; sectors = n }) }
 {
     let k = n / (s / 4);
@@ -149,7 +149,7 @@ fn make_ready(
     fats: &mut [u32],
     difats: &mut [u32],
 ) -> usize
-    requires { FitsNew s (room_of s (length image.now)) (record { image = image.now; fat = fat.old; fats = fats.old; difats = difats.old; sectors = n }) }
+    requires { FitsNew s (room_of s (length image.old)) (record { image = image.old; fat = fat.old; fats = fats.old; difats = difats.old; sectors = n }) }
     ensures { record { image = image.new; fat = fat.new; fats = fats.new; difats = difats.new; sectors = result } ≡ ready s (record { image = image.old; fat = fat.old; fats = fats.old; difats = difats.old; sectors = n }) }
 {
     if n % (s / 4) != 0 {
@@ -167,7 +167,7 @@ pub fn new_sector(
     fats: &mut [u32],
     difats: &mut [u32],
 ) -> usize
-    requires { FitsNew s (room_of s (length image.now)) (record { image = image.now; fat = fat.old; fats = fats.old; difats = difats.old; sectors = n }) }
+    requires { FitsNew s (room_of s (length image.old)) (record { image = image.old; fat = fat.old; fats = fats.old; difats = difats.old; sectors = n }) }
     ensures { (result ≡ (ready s (record { image = image.old; fat = fat.old; fats = fats.old; difats = difats.old; sectors = n })).sectors) × (record { image = image.new; fat = fat.new; fats = fats.new; difats = difats.new; sectors = suc result } ≡ new_sector s (record { image = image.old; fat = fat.old; fats = fats.old; difats = difats.old; sectors = n })) }
 {
     let id = make_ready(image, s, n, fat, fats, difats);

@@ -74,7 +74,7 @@ pub fn take_sector_id(
     difats: &mut [u32],
     frees: &mut [u32],
 ) -> Taken
-    requires { FitsStock s (room_of s (length image.now)) (record { image = image.now; fat = fat.old; fats = fats.old; difats = difats.old; sectors = n }) frees.old free }
+    requires { FitsStock s (room_of s (length image.old)) (record { image = image.old; fat = fat.old; fats = fats.old; difats = difats.old; sectors = n }) frees.old free }
     ensures { (marks : List ℕ) → (result.id ≡ taken_id s (record { disk = record { image = image.old; fat = fat.old; fats = fats.old; difats = difats.old; sectors = n }; frees = frees.old; free = free; marks = marks })) × (record { disk = record { image = image.new; fat = fat.new; fats = fats.new; difats = difats.new; sectors = result.sectors }; frees = frees.new; free = result.free; marks = marks } ≡ take_sector s (record { disk = record { image = image.old; fat = fat.old; fats = fats.old; difats = difats.old; sectors = n }; frees = frees.old; free = free; marks = marks })) }
 {
     if free == 0 {
@@ -110,7 +110,7 @@ pub fn free_run(
     from: usize,
     count: usize,
 )
-    requires { (difats : List ℕ) × FitsFrees s (room_of s (length image.now)) from count ids.now (record { disk = record { image = image.now; fat = fat.old; fats = fats.now; difats = difats; sectors = n }; frees = frees.old; free = free; marks = marks.old }) }
+    requires { (difats : List ℕ) × FitsFrees s (room_of s (length image.old)) from count ids.now (record { disk = record { image = image.old; fat = fat.old; fats = fats.now; difats = difats; sectors = n }; frees = frees.old; free = free; marks = marks.old }) }
     ensures { (difats : List ℕ) → record { disk = record { image = image.new; fat = fat.new; fats = fats.now; difats = difats; sectors = n }; frees = frees.new; free = (free + count); marks = marks.new } ≡ free_run s (record { disk = record { image = image.old; fat = fat.old; fats = fats.now; difats = difats; sectors = n }; frees = frees.old; free = free; marks = marks.old }) ids.now from count }
 {
     let mut j = 0;

@@ -48,7 +48,7 @@ fn shrink(
     count: usize,
     m: usize,
 )
-    requires { (difats : List ℕ) × FitsShrink s (room_of s (length image.now)) m (record { hand = record { disk = record { image = image.now; fat = fat.old; fats = fats.now; difats = difats; sectors = n }; frees = frees.old; free = free; marks = marks.old }; ids = ids.old; count = count }) }
+    requires { (difats : List ℕ) × FitsShrink s (room_of s (length image.old)) m (record { hand = record { disk = record { image = image.old; fat = fat.old; fats = fats.now; difats = difats; sectors = n }; frees = frees.old; free = free; marks = marks.old }; ids = ids.old; count = count }) }
     ensures { (difats : List ℕ) → record { hand = record { disk = record { image = image.new; fat = fat.new; fats = fats.now; difats = difats; sectors = n }; frees = frees.new; free = (free + (count - m)); marks = marks.new }; ids = ids.new; count = m } ≡ shrunk s (record { hand = record { disk = record { image = image.old; fat = fat.old; fats = fats.now; difats = difats; sectors = n }; frees = frees.old; free = free; marks = marks.old }; ids = ids.old; count = count }) m }
 {
     if count <= m {
@@ -124,7 +124,7 @@ pub fn change(
     edit: Edit,
     buf: &[u8],
 ) -> Changed
-    requires { FitsEdit s (room_of s (length image.now)) edit (length buf.now) (record { hand = record { disk = record { image = image.now; fat = fat.old; fats = fats.old; difats = difats.old; sectors = n }; frees = frees.old; free = free; marks = marks.old }; ids = ids.old; count = count }) }
+    requires { FitsEdit s (room_of s (length image.old)) edit (length buf.now) (record { hand = record { disk = record { image = image.old; fat = fat.old; fats = fats.old; difats = difats.old; sectors = n }; frees = frees.old; free = free; marks = marks.old }; ids = ids.old; count = count }) }
     ensures { record { hand = record { disk = record { image = image.new; fat = fat.new; fats = fats.new; difats = difats.new; sectors = result.sectors }; frees = frees.new; free = result.free; marks = marks.new }; ids = ids.new; count = result.ids } ≡ edited s (record { hand = record { disk = record { image = image.old; fat = fat.old; fats = fats.old; difats = difats.old; sectors = n }; frees = frees.old; free = free; marks = marks.old }; ids = ids.old; count = count }) edit buf.now }
 {
     let need = need_of(s, count, edit, buf.len());

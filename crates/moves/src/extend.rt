@@ -21,7 +21,7 @@ fn extend_one(
     ids: &mut [u32],
     count: usize,
 ) -> Changed
-    requires { FitsMore s (room_of s (length image.now)) 1 (record { hand = record { disk = record { image = image.now; fat = fat.old; fats = fats.old; difats = difats.old; sectors = n }; frees = frees.old; free = free; marks = marks.old }; ids = ids.old; count = count }) }
+    requires { FitsMore s (room_of s (length image.old)) 1 (record { hand = record { disk = record { image = image.old; fat = fat.old; fats = fats.old; difats = difats.old; sectors = n }; frees = frees.old; free = free; marks = marks.old }; ids = ids.old; count = count }) }
     ensures { record { hand = record { disk = record { image = image.new; fat = fat.new; fats = fats.new; difats = difats.new; sectors = result.sectors }; frees = frees.new; free = result.free; marks = marks.new }; ids = ids.new; count = result.ids } ≡ extend_one s (record { hand = record { disk = record { image = image.old; fat = fat.old; fats = fats.old; difats = difats.old; sectors = n }; frees = frees.old; free = free; marks = marks.old }; ids = ids.old; count = count }) }
 {
     let taken = take_sector_id(image, s, n, free, fat, fats, difats, frees);
@@ -51,7 +51,7 @@ pub fn extend_by(
     count: usize,
     more: usize,
 ) -> Changed
-    requires { FitsMore s (room_of s (length image.now)) more (record { hand = record { disk = record { image = image.now; fat = fat.old; fats = fats.old; difats = difats.old; sectors = n }; frees = frees.old; free = free; marks = marks.old }; ids = ids.old; count = count }) }
+    requires { FitsMore s (room_of s (length image.old)) more (record { hand = record { disk = record { image = image.old; fat = fat.old; fats = fats.old; difats = difats.old; sectors = n }; frees = frees.old; free = free; marks = marks.old }; ids = ids.old; count = count }) }
     ensures { record { hand = record { disk = record { image = image.new; fat = fat.new; fats = fats.new; difats = difats.new; sectors = result.sectors }; frees = frees.new; free = result.free; marks = marks.new }; ids = ids.new; count = result.ids } ≡ extend s (record { hand = record { disk = record { image = image.old; fat = fat.old; fats = fats.old; difats = difats.old; sectors = n }; frees = frees.old; free = free; marks = marks.old }; ids = ids.old; count = count }) more }
 {
     let mut grown = Changed {

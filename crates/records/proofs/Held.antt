@@ -17,9 +17,9 @@ pub never : {A : Type 0} → false ≡ true → A
 never e = absurd (not_both e refl)
 
 -- a test whose opposite fails holds
-pub not-false : (t : Bool) → not t ≡ false → t ≡ true
-not-false true e = refl
-not-false false e = sym e
+pub not_false : (t : Bool) → not t ≡ false → t ≡ true
+not_false true e = refl
+not_false false e = sym e
 
 -- the header of the words that were taken
 pub header_held : (v : Version) (b : List ℕ) {words : List ℕ} {h : Header} → h ≡ header_with v words → words ≡ numbers_in b 117 → h ≡ header_in v b
