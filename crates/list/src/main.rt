@@ -3,18 +3,23 @@
 #![tactic(auto)]
 
 ghost use Rattle.std.specs.Prelude.{◌≡◌, ◌≤◌, length, take};
+ghost use Rattle.std.specs.Io.KnownBytes.{Consumes};
 ghost use Rattle.listing.specs.Listing.{listing};
 
 use listing::list_text;
 use std::io::Read;
 
-// Reads until buf is full, the input ends or a read fails, and returns how many bytes it put at the start of buf.
-fn read_full(input: &mut impl Read, buf: &mut [u8]) -> usize
-    ensures { result ≤ length buf.new }
+// Reads until buf is full, the input ends or a read fails, and returns how many bytes it put at the start of buf. They are
+// the bytes that the input gave, in their order.
+fn read_full<R: Read>(input: &mut R, buf: &mut [u8]) -> usize
+    ensures in_bounds { result ≤ length buf.new }
+    ensures bytes { Consumes (R.remaining input.old) (R.remaining input.new) (take result buf.new) }
 {
     let mut done = 0;
     while done < buf.len() {
-        let n = input.read(&mut buf[done..]).unwrap_or(0);
+        let Ok(n) = input.read(&mut buf[done..]) else {
+            break;
+        };
         if n == 0 {
             break;
         }

@@ -2,9 +2,10 @@
 // and says how many answers there are and which differ.
 #![tactic(auto)]
 
-ghost use Rattle.std.specs.Prelude.{◌≡◌, true};
+ghost use Rattle.std.specs.Prelude.{◌≡◌, ◌≢◌, true};
+ghost use Rattle.std.specs.Io.KnownBytes.{Consumes};
 ghost use Rattle.replay.specs.Agrees.{Agrees, Replays};
-ghost use Rattle.replay.specs.declared.Replayed.TheVariants.{Same};
+ghost use Rattle.replay.specs.declared.Replayed.TheVariants.{Ended, Same};
 
 use answers::{same_list, same_read, same_write};
 use openings::same_image;
@@ -55,9 +56,11 @@ fn same_answer(case: &[u8]) -> bool
 }
 
 // Reads the next record into the buffer and replays it there; input that ends or fails before the record is full ends the
-// list. No contract can say which bytes are read: `Same` is said of those that the buffer then holds.
-fn replay_next(input: &mut impl Read, case: &mut [u8; 1024]) -> Replayed
-    ensures { result ≡ Same → Agrees case.new }
+// list. No contract can say which bytes standard input gives: `Same` is said of those that the buffer then holds, and they
+// are the bytes that the input gave.
+fn replay_next<R: Read>(input: &mut R, case: &mut [u8; 1024]) -> Replayed
+    ensures same { result ≡ Same → Agrees case.new }
+    ensures read { result ≢ Ended → Consumes (R.remaining input.old) (R.remaining input.new) case.new }
 {
     if input.read_exact(case).is_err() {
         return Replayed::Ended;

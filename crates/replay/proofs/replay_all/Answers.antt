@@ -8,7 +8,7 @@ loop-answers-init g c = (omega arith, omega arith, Replays.none)
 
 pub loop-answers-preserved-in-Same : goal.loop-answers-preserved-in-Same
 loop-answers-preserved-in-Same g c =
-    (omega arith, omega arith, Replays.same _ (c.in-Same.ensures refl) c.loop-answers.invariant.2)
+    (omega arith, omega arith, Replays.same _ (c.in-Same.ensures.same refl) c.loop-answers.invariant.2)
 
 pub loop-answers-preserved : goal.loop-answers-preserved
 loop-answers-preserved g c = (omega arith, omega arith, Replays.differs c.loop-answers.invariant.2)
