@@ -19,12 +19,8 @@ tables c = record { fat = c.args.fat.now; fats = c.args.fats.now; difats = c.arg
 first : (c : After-judge_early-early) → c.judge_early-early.result.no ≡ refusal (first_rows c.args.validation (img c) c.args.used (shortest (tables c)))
 first c = c.judge_early-early.ensures.number ∙ ap (λ (k : ℕ). refusal (first_rows c.args.validation (img c) c.args.used k)) c.shortest-short.ensures
 
-zero : (c : After-load_all-arg-5-1) → let tables : Tables = record { fat = c.args.fat.now; fats = c.args.fats.now; difats = c.args.difats.now; frees = c.args.frees.now; marks = c.args.marks.now } in let img : List ℕ = c.args.image.now in refusal (first_rows c.args.validation img c.args.used (shortest tables)) ≡ 0
-zero c =
-    let img : List ℕ = c.args.image.now in
-    let tables : Tables = record { fat = c.args.fat.now; fats = c.args.fats.now; difats = c.args.difats.now; frees = c.args.frees.now; marks = c.args.marks.now } in
-    let first : c.judge_early-early.result.no ≡ refusal (first_rows c.args.validation img c.args.used (shortest tables)) = c.judge_early-early.ensures.number ∙ ap (λ (k : ℕ). refusal (first_rows c.args.validation img c.args.used k)) c.shortest-short.ensures in
-    sym first ∙ c.if-no-ne0.false
+zero : (c : After-load_all-arg-5-1) (k : ℕ) → c.judge_early-early.result.no ≡ k → k ≡ 0
+zero c k first = sym first ∙ c.if-no-ne0.false
 
 pub returns-then-no-ne0 : goal.returns-then-no-ne0
 returns-then-no-ne0 c =
@@ -36,14 +32,14 @@ load_all-filled-requires c =
     let passed = goal.at.load_all-filled-requires c in
     let e = c.judge_early-early.ensures in
     let z = c.if-no-ne0.false in
-    lent_own _ _ _ _ _ _ _ _ _ _ (early_len e z) (early_sectors e z) (opens_lent _ _ _ (tables passed.After-judge_early-early) (zero c))
+    lent_own _ _ _ _ _ _ _ _ _ _ (early_len e z) (early_sectors e z) (opens_lent _ _ _ (tables passed.After-judge_early-early) (zero c _ (first passed.After-judge_early-early)))
 
 pub returns-then-no-ne0-2 : goal.returns-then-no-ne0-2
 returns-then-no-ne0-2 c =
     let passed = goal.at.returns-then-no-ne0-2 c in
     let e = c.judge_early-early.ensures in
     let z = c.if-no-ne0.false in
-    opens_refused _ _ _ (tables passed.After-judge_early-early) (zero passed.After-load_all-arg-5-1) _ _ _ _ _ _
+    opens_refused _ _ _ (tables passed.After-judge_early-early) (zero passed.After-load_all-arg-5-1 _ (first passed.After-judge_early-early)) _ _ _ _ _ _
     (loaded_own _ _ _ _ _ _ _ _ _ _ _ _ _ _ _ _ _ _ _ _ c.is_strict-strict.ensures (early_len e z) (early_own e z) (early_sectors e z) c.load_all-filled.ensures) _ c.nothing-then-no-ne0-2.ensures c.if-no-ne0-2.true
 
 pub returns : goal.returns
@@ -51,5 +47,5 @@ returns c =
     let passed = goal.at.returns c in
     let e = c.judge_early-early.ensures in
     let z = c.if-no-ne0.false in
-    opens _ _ _ (tables passed.After-judge_early-early) (zero passed.After-load_all-arg-5-1) _ _ _ _ _ _
+    opens _ _ _ (tables passed.After-judge_early-early) (zero passed.After-load_all-arg-5-1 _ (first passed.After-judge_early-early)) _ _ _ _ _ _
     (loaded_own _ _ _ _ _ _ _ _ _ _ _ _ _ _ _ _ _ _ _ _ c.is_strict-strict.ensures (early_len e z) (early_own e z) (early_sectors e z) c.load_all-filled.ensures) _ (found_own _ _ _ _ _ (early_sectors e z) (early_own e z)) c.if-no-ne0-2.false

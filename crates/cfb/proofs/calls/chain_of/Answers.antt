@@ -8,14 +8,10 @@ use Rattle.fat.specs.Lists.{room_of}
 use Rattle.alloc.specs.Opening.{Tables, shortest}
 use Rattle.agree.proofs.Meaning.{agrees_exactly}
 use Rattle.cfb.specs.Calls.{state_len}
-use Rattle.cfb.specs.declared.State.{State}
 use Rattle.cfb.proofs.Agreed.{Chained, agreed_chained}
 use Rattle.cfb.proofs.Calling.{room_short, room_long, room_enough, listed_short, listed_apart, listed_walked}
 use Rattle.cfb.proofs.calls.chain_of.Goals as goal
 use Rattle.cfb.proofs.calls.chain_of.Goals.{After-agrees, After-room_of}
-
-abbrev state : After-room_of → State
-state c = c.args.s
 
 abbrev tables : After-room_of → Tables
 tables c = record { fat = c.args.fat.now; fats = c.args.fats.now; difats = c.args.difats.now; frees = c.args.frees.now; marks = c.args.marks.now }
@@ -24,21 +20,17 @@ tables c = record { fat = c.args.fat.now; fats = c.args.fats.now; difats = c.arg
 short_is : (c : After-room_of) → c.lesser-short.result ≡ min (shortest (tables c)) (length c.args.ids.now)
 short_is c = c.lesser-short.ensures.2 ∙ ap (λ (n : ℕ). min n (length c.args.ids.now)) c.shortest.ensures
 
-long_enough : (c : After-agrees) → let state : State = c.args.s in let tables : Tables = record { fat = c.args.fat.now; fats = c.args.fats.now; difats = c.args.difats.now; frees = c.args.frees.now; marks = c.args.marks.now } in ltb (min (shortest tables) (length c.args.ids.now)) (room_of (state_len state) (length c.args.image.now)) ≡ false
-long_enough c =
-    let tables : Tables = record { fat = c.args.fat.now; fats = c.args.fats.now; difats = c.args.difats.now; frees = c.args.frees.now; marks = c.args.marks.now } in
-    let short_is : c.lesser-short.result ≡ min (shortest tables) (length c.args.ids.now) = c.lesser-short.ensures.2 ∙ ap (λ (n : ℕ). min n (length c.args.ids.now)) c.shortest.ensures in
-    room_long short_is c.room_of.ensures c.if-short-room_of.false
+long_enough : (c : After-agrees) (least : ℕ) → c.lesser-short.result ≡ least → ltb least (room_of (state_len c.args.s) (length c.args.image.now)) ≡ false
+long_enough c least short = room_long short c.room_of.ensures c.if-short-room_of.false
 
 list_kept : (c : After-agrees) → length c.agrees.new.scratch ≡ length c.args.ids.now
 list_kept c = c.agrees.auto.scratch
 
 -- what agrees can be walked
-walkable : (c : After-agrees) → let state : State = c.args.s in c.agrees.result ≡ true → Chained (state_len state) c.args.image.now c.args.fat.now state.sectors
+walkable : (c : After-agrees) → c.agrees.result ≡ true → Chained (state_len c.args.s) c.args.image.now c.args.fat.now c.args.s.sectors
 walkable c e =
-    let state : State = c.args.s in
+    let s = c.args.s in
     let tables : Tables = record { fat = c.args.fat.now; fats = c.args.fats.now; difats = c.args.difats.now; frees = c.args.frees.now; marks = c.args.marks.now } in
-    let s = state in
     agreed_chained s.mode _ s.used s.sectors s.free s.header tables
     ((agrees_exactly s.mode _ s.used s.sectors s.free s.header tables).0 (sym c.agrees.ensures ∙ e))
 
@@ -50,7 +42,7 @@ returns-then-short-room_of c =
 pub returns-then-not-agrees : goal.returns-then-not-agrees
 returns-then-not-agrees c =
     let passed = goal.at.returns-then-not-agrees c in
-    listed_apart _ _ (tables passed.After-room_of) _ _ (long_enough passed.After-agrees) _ (sym c.agrees.ensures ∙ c.if-not-agrees.true) (c.fill32.ensures ∙ ap (λ (n : ℕ). replicate n 0) (list_kept passed.After-agrees))
+    listed_apart _ _ (tables passed.After-room_of) _ _ (long_enough passed.After-agrees _ (short_is passed.After-room_of)) _ (sym c.agrees.ensures ∙ c.if-not-agrees.true) (c.fill32.ensures ∙ ap (λ (n : ℕ). replicate n 0) (list_kept passed.After-agrees))
 
 pub slice_bounds-walk-end : goal.slice_bounds-walk-end
 slice_bounds-walk-end c =
@@ -61,10 +53,10 @@ pub walk-walked-requires : goal.walk-walked-requires
 walk-walked-requires c =
     let passed = goal.at.walk-walked-requires c in
     let k = walkable passed.After-agrees (c.if-not-agrees.false) in
-    record { few = k.few; once = k.once; room = room_enough (shortest (tables passed.After-room_of)) k.count k.room (long_enough passed.After-agrees) (list_kept passed.After-agrees) }
+    record { few = k.few; once = k.once; room = room_enough (shortest (tables passed.After-room_of)) k.count k.room (long_enough passed.After-agrees _ (short_is passed.After-room_of)) (list_kept passed.After-agrees) }
 
 pub returns : goal.returns
 returns c =
     let passed = goal.at.returns c in
     let k = walkable passed.After-agrees (c.if-not-agrees.false) in
-    listed_walked _ _ (tables passed.After-room_of) _ _ (long_enough passed.After-agrees) (sym c.agrees.ensures ∙ c.if-not-agrees.false) k.few k.once _ _ _ _ (list_kept passed.After-agrees) c.walk-walked.ensures c.walk-walked.auto.ids c.clear_past.ensures
+    listed_walked _ _ (tables passed.After-room_of) _ _ (long_enough passed.After-agrees _ (short_is passed.After-room_of)) (sym c.agrees.ensures ∙ c.if-not-agrees.false) k.few k.once _ _ _ _ (list_kept passed.After-agrees) c.walk-walked.ensures c.walk-walked.auto.ids c.clear_past.ensures

@@ -2,11 +2,10 @@
 use Prim.Native.Nat.{ℕ, ◌≤◌}
 use mathlib.Core.Path.{◌≡◌, sym, ◌∙◌, ap}
 use mathlib.Core.Bool.{true}
-use mathlib.Core.List.{List}
 use native.Mathlib.Omega.{arith}
 use lib.ListN.{length}
 use Rattle.lists.specs.Lists.{part, same_list}
-use Rattle.lists.specs.Rows.{Row, refusal}
+use Rattle.lists.specs.Rows.{refusal}
 use Rattle.consts.specs.Consts.{signature}
 use Rattle.fields.specs.Fields.{list_of, ids_then_free}
 use Rattle.header.specs.Read.{fixed_of, fixed_rows, read_number, header_of}
@@ -17,30 +16,20 @@ use Rattle.header.proofs.Reading.{gives_1, gives_2, gives_fixed, gives_9, gives_
 use Rattle.header.proofs.Header.read_from.Goals as goal
 use Rattle.header.proofs.Header.read_from.Goals.{After-ids_then_free, After-judge-verdict, Else-not-signed, Else-number-ne0}
 
-abbrev bytes : Else-not-signed → List ℕ
-bytes c = c.args.b.now
-
-whole : (c : Else-not-signed) → 512 ≤ length (bytes c)
+whole : (c : Else-not-signed) → 512 ≤ length c.args.b.now
 whole c = c.if-b-lt-HEADER_LEN.false
 
-signed : (c : Else-not-signed) → same_list (part (bytes c) 0 8) signature ≡ true
+signed : (c : Else-not-signed) → same_list (part c.args.b.now 0 8) signature ≡ true
 signed c = sym c.signed.ensures ∙ c.if-not-signed.false
 
 -- what the judge says, and what it said where it refused nothing
-abbrev rows : Else-not-signed → List Row
-rows c = fixed_rows c.args.validation (fixed_of (bytes c))
-
-judged : (c : After-judge-verdict) → let bytes : List ℕ = c.args.b.now in let rows : List Row = fixed_rows c.args.validation (fixed_of bytes) in read_number c.judge-verdict.result ≡ refusal rows
+judged : (c : After-judge-verdict) → read_number c.judge-verdict.result ≡ refusal (fixed_rows c.args.validation (fixed_of c.args.b.now))
 judged c = c.judge-verdict.ensures ∙ ap (λ (f : Fixed). refusal (fixed_rows c.args.validation f)) c.judged_by.ensures
 
-passed : (c : Else-number-ne0) → let bytes : List ℕ = c.args.b.now in let rows : List Row = fixed_rows c.args.validation (fixed_of bytes) in 0 ≡ refusal rows
-passed c =
-    let bytes : List ℕ = c.args.b.now in
-    let rows : List Row = fixed_rows c.args.validation (fixed_of bytes) in
-    let judged : read_number c.judge-verdict.result ≡ refusal rows = c.judge-verdict.ensures ∙ ap (λ (f : Fixed). refusal (fixed_rows c.args.validation f)) c.judged_by.ensures in
-    sym (sym c.number.ensures ∙ c.if-number-ne0.false) ∙ judged
+passed : (c : Else-number-ne0) (k : ℕ) → read_number c.judge-verdict.result ≡ k → 0 ≡ k
+passed c k judged = sym (sym c.number.ensures ∙ c.if-number-ne0.false) ∙ judged
 
-listed : (c : After-ids_then_free) → let bytes : List ℕ = c.args.b.now in c.ids_then_free.result ≡ ids_then_free (list_of bytes)
+listed : (c : After-ids_then_free) → c.ids_then_free.result ≡ ids_then_free (list_of c.args.b.now)
 unfolding header_of
 listed c = c.ids_then_free.ensures ∙ ap (λ (h : Header). ids_then_free h.list) c.content-header.ensures
 
@@ -62,10 +51,10 @@ pub returns-then-not-ids_then_free : goal.returns-then-not-ids_then_free
 returns-then-not-ids_then_free c =
     let at = goal.at.returns-then-not-ids_then_free c in
     says_no _ _ Entries _ c.refused-then-not-ids_then_free.ensures (omega arith)
-    (gives_9 _ _ (whole at.Else-not-signed) (signed at.Else-not-signed) (passed at.Else-number-ne0) (sym (listed at.After-ids_then_free) ∙ c.if-not-ids_then_free.true))
+    (gives_9 _ _ (whole at.Else-not-signed) (signed at.Else-not-signed) (passed at.Else-number-ne0 _ (judged at.After-judge-verdict)) (sym (listed at.After-ids_then_free) ∙ c.if-not-ids_then_free.true))
 
 pub returns : goal.returns
 returns c =
     let at = goal.at.returns c in
     says_yes _ _ _ c.content-header.ensures
-    (gives_0 _ _ (whole at.Else-not-signed) (signed at.Else-not-signed) (passed at.Else-number-ne0) (sym (listed at.After-ids_then_free) ∙ c.if-not-ids_then_free.false))
+    (gives_0 _ _ (whole at.Else-not-signed) (signed at.Else-not-signed) (passed at.Else-number-ne0 _ (judged at.After-judge-verdict)) (sym (listed at.After-ids_then_free) ∙ c.if-not-ids_then_free.false))
