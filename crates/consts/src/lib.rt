@@ -1,6 +1,8 @@
 // The numbers of a compound file, the six kinds of a FAT entry, and the short list of a run of entries that `prettify` gives.
 #![tactic(auto)]
 
+pub mod refusal;
+
 ghost use Rattle.std.specs.Prelude.{◌≡◌, drop};
 ghost use Rattle.consts.specs.Consts.{header_len, dir_entry_len, header_difat, mini_len};
 ghost use Rattle.consts.specs.Kinds.{kind_of};
