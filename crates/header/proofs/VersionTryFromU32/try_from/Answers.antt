@@ -3,7 +3,7 @@ use mathlib.Core.Path.{◌≡◌}
 use native.Mathlib.Omega.{arith}
 use borrow.Author.Tests.{ne_eqb}
 use Rattle.header.specs.Versions.{numbered_of}
-use Rattle.header.proofs.Version.from_number.Goals as goal
+use Rattle.header.proofs.VersionTryFromU32.try_from.Goals as goal
 
 pub returns-in-3 : goal.returns-in-3
 unfolding numbered_of
