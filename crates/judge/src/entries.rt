@@ -1,52 +1,52 @@
 // What the entries of a FAT say of its sectors (document 01, refusals 15 to 18), and the list of the FREE ones.
 ghost use Rattle.std.specs.Prelude.{◌≡◌, ◌≤◌, ◌<◌, length, replicate};
 ghost use Rattle.consts.specs.Consts.{max_regular};
+ghost use Rattle.consts.specs.Refusals.{ends_with};
 ghost use Rattle.judge.specs.Judge.{marks_of, none_dangles};
 ghost use Rattle.judge.specs.Judged.{Judged, JudgedOne, Listed};
 
+use consts::refusal::Refusal;
+
 // Judges sector i by the marks that the sectors below it made: 0, or 15, 16 or 17. At 0 its entry is forgiven, and the sector that it points at is marked.
-pub fn judge_one(strict: bool, i: usize, fat: &mut [u32], marks: &mut [u8]) -> u32
+pub fn judge_one(strict: bool, i: usize, fat: &mut [u32], marks: &mut [u8]) -> Result<(), Refusal>
     requires i_in_bounds { i < length fat.old }
     requires marks_len { length marks.old ≡ length fat.old }
-    ensures { JudgedOne strict i fat.old marks.old result fat.new marks.new }
+    ensures { JudgedOne strict i fat.old marks.old (ends_with result) fat.new marks.new }
 {
     let e = fat[i];
     if e == consts::INVALID_SECTOR {
-        return 17;
+        return Err(Refusal::InvalidEntry);
     }
     if e > consts::MAX_REGULAR_SECTOR {
-        return 0;
+        return Ok(());
     }
     let t = e as usize;
     if t >= fat.len() {
         if strict {
-            return 15;
+            return Err(Refusal::PastEnd);
         }
         fat[i] = consts::END_OF_CHAIN;
-        return 0;
+        return Ok(());
     }
     if marks[t] == 1 {
-        return 16;
+        return Err(Refusal::PointedTwice);
     }
     marks[t] = 1;
-    0
+    Ok(())
 }
 
 // Judges the sectors upward: the number of the first bad one, or 0. At 0 the FAT is forgiven and each pointed-to sector marked; after a refusal the tables hold what was judged so far.
-pub fn judge(strict: bool, fat: &mut [u32], marks: &mut [u8]) -> u32
+pub fn judge(strict: bool, fat: &mut [u32], marks: &mut [u8]) -> Result<(), Refusal>
     requires fat_len_bound { length fat.old ≤ max_regular }
     requires marks_value { marks.old ≡ replicate (length fat.old) 0 }
-    ensures { Judged strict fat.old result fat.new marks.new }
+    ensures { Judged strict fat.old (ends_with result) fat.new marks.new }
 {
     let mut i = 0;
     while i < fat.len() {
-        let wrong = judge_one(strict, i, fat, marks);
-        if wrong != 0 {
-            return wrong;
-        }
+        judge_one(strict, i, fat, marks)?;
         i += 1;
     }
-    0
+    Ok(())
 }
 
 // Whether no pointed-to sector is FREE. No branch in the loop: so it runs on vectors.
