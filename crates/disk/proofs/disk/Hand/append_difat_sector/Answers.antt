@@ -1,7 +1,7 @@
 -- Each store lies within the image, which keeps its length, and the stores one after another are the definition's.
 use mathlib.Core.Path.{◌∙◌}
 use Rattle.disk.proofs.Growing.{one_new, one_entry, one_link, difat_appended}
-use Rattle.disk.proofs.disk.append_difat_sector.Goals as goal
+use Rattle.disk.proofs.disk.Hand.append_difat_sector.Goals as goal
 
 pub init_at-requires : goal.init_at-requires
 init_at-requires c =

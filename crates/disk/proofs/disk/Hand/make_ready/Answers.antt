@@ -1,7 +1,7 @@
 -- The FAT is full where the sectors are a multiple of a sector's entries.
 use Rattle.disk.proofs.Fitting.{new_full}
 use Rattle.disk.proofs.Growing.{ready_there, ready_made}
-use Rattle.disk.proofs.disk.make_ready.Goals as goal
+use Rattle.disk.proofs.disk.Hand.make_ready.Goals as goal
 
 pub returns-then-n-s-ne0 : goal.returns-then-n-s-ne0
 returns-then-n-s-ne0 c = ready_there _ _ c.if-n-s-ne0.true

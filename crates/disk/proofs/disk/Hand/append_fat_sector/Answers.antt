@@ -1,7 +1,7 @@
 -- The sector's own entry stands in it; once it is marked there is room for its place, and the stores are the definition's.
 use native.Mathlib.Omega.{arith}
 use Rattle.disk.proofs.Growing.{full_new, full_listed, full_entry, fat_marked_lem, fat_place, fat_appended}
-use Rattle.disk.proofs.disk.append_fat_sector.Goals as goal
+use Rattle.disk.proofs.disk.Hand.append_fat_sector.Goals as goal
 
 pub init_at-requires : goal.init_at-requires
 init_at-requires c =

@@ -1,7 +1,7 @@
 -- Where there is no DIFAT sector the link is the header's field; else it is the last entry of the last one.
 use native.Mathlib.Omega.{arith}
 use Rattle.disk.proofs.Storing.{sector_small, link_first, link_next, link_within}
-use Rattle.disk.proofs.disk.link_difat.Goals as goal
+use Rattle.disk.proofs.disk.Hand.link_difat.Goals as goal
 
 pub returns-then-j-eq0 : goal.returns-then-j-eq0
 returns-then-j-eq0 c = link_first _ _ _ _ _ _ c.if-j-eq0.true c.put_number.ensures

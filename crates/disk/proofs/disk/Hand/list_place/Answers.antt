@@ -3,7 +3,7 @@ use native.Mathlib.Omega.{arith}
 use Rattle.disk.proofs.Fitting.{place_in_sector}
 use Rattle.disk.proofs.Growing.{place_listed, place_held, place_near, place_far}
 use Rattle.disk.proofs.Storing.{sector_small}
-use Rattle.disk.proofs.disk.list_place.Goals as goal
+use Rattle.disk.proofs.disk.Hand.list_place.Goals as goal
 
 pub returns-then-p-lt109 : goal.returns-then-p-lt109
 returns-then-p-lt109 c = place_near _ _ _ _ _ _ _ _ _ c.if-p-lt109.true c.put_place.ensures

@@ -1,6 +1,6 @@
 -- Where a DIFAT sector has the place nothing changes; else as many as there are places hold exactly those before it.
 use Rattle.disk.proofs.Growing.{hold_not, hold_one, hold_done}
-use Rattle.disk.proofs.disk.hold_place.Goals as goal
+use Rattle.disk.proofs.disk.Hand.hold_place.Goals as goal
 
 pub returns-then-not-needs_difat : goal.returns-then-not-needs_difat
 returns-then-not-needs_difat c = hold_not _ _ _ _ c.needs_difat.ensures (c.if-not-needs_difat.true)

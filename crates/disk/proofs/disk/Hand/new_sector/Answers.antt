@@ -1,6 +1,6 @@
 -- What is ready has room for the sector's entry and its bytes.
 use Rattle.disk.proofs.Growing.{new_entry, new_bytes, new_made}
-use Rattle.disk.proofs.disk.new_sector.Goals as goal
+use Rattle.disk.proofs.disk.Hand.new_sector.Goals as goal
 
 pub set_fat-requires : goal.set_fat-requires
 set_fat-requires c =

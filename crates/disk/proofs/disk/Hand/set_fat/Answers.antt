@@ -2,7 +2,7 @@
 use mathlib.Core.Path.{refl}
 use native.Mathlib.Omega.{arith}
 use Rattle.disk.proofs.Storing.{sector_small, entry_within, entry_stored}
-use Rattle.disk.proofs.disk.set_fat.Goals as goal
+use Rattle.disk.proofs.disk.Hand.set_fat.Goals as goal
 
 pub overflow_cast-id : goal.overflow_cast-id
 overflow_cast-id c = omega (arith, sector_small _ _ _ (omega (arith, c.requires.s_value.0, c.requires.s_value.1)) c.requires.s_in_bounds)
