@@ -31,14 +31,15 @@ fat_same strict raw difats fats fat =
     (both (not (both strict (not (same_list fat (marked_fat raw difats fats)))))
     (same_list fat (forgiven_fat (length fat) (marked_fat raw difats fats))))
 
--- the image opens, and the fronts of the tables hold what it has (document 01, 12 to 18)
-unfoldable pub tables_same : Bool → ℕ → List ℕ → Header → ℕ → List ℕ → List ℕ → List ℕ → List ℕ → Bool
-tables_same strict S img h n fat fats difats marks =
+-- the image opens, and the tables, as long as its FAT, hold what it has (document 01, 12 to 18)
+unfoldable pub tables_same : Bool → ℕ → List ℕ → Header → Tables → Bool
+tables_same strict S img h t =
+    let n = length t.fat in
     both (eqb (refusal (table_rows strict S img h n)) 0)
-    (both (same_list fat (open_fat S img h n))
-    (both (same_list fats (fats_in S img h n))
-    (both (same_list difats (difats_in S img h n))
-    (same_list marks (marks_of n (open_fat S img h n))))))
+    (both (same_list t.fat (open_fat S img h n))
+    (both (same_list t.fats (fats_in S img h n))
+    (both (same_list t.difats (difats_in S img h n))
+    (same_list t.marks (marks_of n (open_fat S img h n))))))
 
 -- each table holds zero past its count
 unfoldable pub tails_zero : ℕ → ℕ → ℕ → ℕ → Tables → Bool
@@ -85,13 +86,13 @@ pub record FatLent (S len : ℕ) (difats fats : List ℕ) (n room : ℕ) : Type 
   pub same : room ≡ n
 
 -- tables as long as n sectors ask for, and a scratch with a place for each sector
-pub record TablesLent (S len n k d marks scratch : ℕ) : Type 0 where
-  pub counted : Counted S n len k d
-  pub marked : marks ≡ n
-  pub below : n ≤ scratch
+pub record TablesLent (S len : ℕ) (t : Tables) (scratch : ℕ) : Type 0 where
+  pub counted : Counted S (length t.fat) len (length t.fats) (length t.difats)
+  pub marked : length t.marks ≡ length t.fat
+  pub below : length t.fat ≤ scratch
 
 -- lent tables that are long enough for n sectors of S bytes, and so is the scratch
 pub record WholeLent (S n len : ℕ) (t : Tables) (free scratch : ℕ) : Type 0 where
-  pub lent : Lent S n len (length t.fat) (length t.fats) (length t.difats) (length t.frees) (length t.marks)
+  pub lent : Lent S n len t
   pub listed : free ≤ n
   pub below : n ≤ scratch

@@ -1,5 +1,5 @@
 -- The lists that lent tables hold. Assumes nothing.
-use Rattle.std.specs.Prelude.{ℕ, ◌≡◌, min, List, length, replicate}
+use Rattle.std.specs.Prelude.{ℕ, ◌≡◌, ◌≤◌, min, List, length, take, replicate}
 use Rattle.tables.specs.declared.TablesMut.{TablesMut}
 use Rattle.tables.specs.declared.Tables as lent
 
@@ -32,6 +32,18 @@ zeroed t =
       frees = replicate (length t.frees) 0;
       marks = replicate (length t.marks) 0;
     }
+
+-- the fronts of tables: those of n sectors, k of the FAT, d of the DIFAT, and so many FREE
+abbrev pub front_of : ℕ → ℕ → ℕ → ℕ → Tables → Tables
+front_of n k d free t = record { fat = take n t.fat; fats = take k t.fats; difats = take d t.difats; frees = take free t.frees; marks = take n t.marks }
+
+-- the tables are as long
+pub record Within (n k d free : ℕ) (t : Tables) : Type 0 where
+  pub fat : n ≤ length t.fat
+  pub fats : k ≤ length t.fats
+  pub difats : d ≤ length t.difats
+  pub frees : free ≤ length t.frees
+  pub marks : n ≤ length t.marks
 
 -- the same slices are lent as before: what is stored in b's is stored in a's, and each is as long as it was
 pub record SameTables (a b : TablesMut) : Type 0 where

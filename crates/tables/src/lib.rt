@@ -3,7 +3,7 @@
 #![tactic(auto)]
 
 ghost use Rattle.std.specs.Prelude.{◌≡◌};
-ghost use Rattle.tables.specs.Tables.{tables_of, tables_in, shortest as shortest_of, zeroed, SameTables};
+ghost use Rattle.tables.specs.Tables.{tables_of, tables_in, shortest as shortest_of, zeroed, front_of, SameTables, Within};
 
 // Lent tables that are read.
 #[derive(Clone, Copy)]
@@ -30,13 +30,27 @@ pub struct TablesMut<'a> {
     pub marks: &'a mut [u8],
 }
 
-impl Tables<'_> {
+impl<'a> Tables<'a> {
     // The length of the shortest table.
     pub fn shortest(self) -> usize
         ensures { result ≡ shortest_of (tables_of self.entry) }
     {
         let others = self.difats.len().min(self.frees.len().min(self.marks.len()));
         self.fat.len().min(self.fats.len().min(others))
+    }
+
+    // The fronts of the tables: those of n sectors, k of the FAT, d of the DIFAT, and so many FREE.
+    pub fn front(self, n: usize, k: usize, d: usize, free: usize) -> Tables<'a>
+        requires { Within n k d free (tables_of self) }
+        ensures { tables_of result ≡ front_of n k d free (tables_of self.entry) }
+    {
+        Tables {
+            fat: &self.fat[..n],
+            fats: &self.fats[..k],
+            difats: &self.difats[..d],
+            frees: &self.frees[..free],
+            marks: &self.marks[..n],
+        }
     }
 }
 

@@ -6,12 +6,7 @@ ghost use Rattle.consts.specs.Consts.{max_regular};
 ghost use Rattle.walk.specs.Walk.{leads as leads_on};
 ghost use Rattle.walk.specs.Walked.{Walkable, WalkLeft};
 
-// What a walk answers: how many ids it listed, or the number of a refusal.
-#[derive(Clone, Copy)]
-pub enum Walked {
-    Listed(usize),
-    Refused(u32),
-}
+use consts::refusal::Refusal;
 
 // Whether a number is END or one of n sectors.
 fn leads(n: usize, e: u32) -> bool
@@ -26,12 +21,12 @@ fn leads(n: usize, e: u32) -> bool
 
 // Lists the ids of the chain from start at the front of ids, and the rest stays; or 20, 21 or 22,
 // and ids then hold those that were met. No sector is pointed to twice, so the walk ends.
-pub fn walk(fat: &[u32], start: u32, ids: &mut [u32]) -> Walked
+pub fn walk(fat: &[u32], start: u32, ids: &mut [u32]) -> Result<usize, Refusal>
     requires { Walkable fat.now ids.old }
     ensures { WalkLeft fat.now start ids.old result ids.new }
 {
     if !leads(fat.len(), start) {
-        return Walked::Refused(20);
+        return Err(Refusal::BadStart);
     }
     let mut id = start;
     let mut count = 0;
@@ -40,11 +35,11 @@ pub fn walk(fat: &[u32], start: u32, ids: &mut [u32]) -> Walked
         count += 1;
         id = fat[id as usize];
         if !leads(fat.len(), id) {
-            return Walked::Refused(21);
+            return Err(Refusal::BrokenChain);
         }
         if id == start {
-            return Walked::Refused(22);
+            return Err(Refusal::Loop);
         }
     }
-    Walked::Listed(count)
+    Ok(count)
 }
