@@ -13,10 +13,7 @@ fn leads(n: usize, e: u32) -> bool
     requires { n ≤ max_regular }
     ensures { result ≡ leads_on n e }
 {
-    if e == consts::END_OF_CHAIN {
-        return true;
-    }
-    (e as usize) < n
+    e == consts::END_OF_CHAIN || (e as usize) < n
 }
 
 // Lists the ids of the chain from start at the front of ids, and the rest stays; or 20, 21 or 22,
@@ -30,6 +27,7 @@ pub fn walk(fat: &[u32], start: u32, ids: &mut [u32]) -> Result<usize, Refusal>
     }
     let mut id = start;
     let mut count = 0;
+    // kept: the chain ends at END, which it meets while the list has room; a `for` over the list would need an answer for a full one
     while id != consts::END_OF_CHAIN {
         ids[count] = id;
         count += 1;
