@@ -31,15 +31,18 @@ fat_same strict raw difats fats fat =
     (both (not (both strict (not (same_list fat (marked_fat raw difats fats)))))
     (same_list fat (forgiven_fat (length fat) (marked_fat raw difats fats))))
 
--- the image opens, and the tables, as long as its FAT, hold what it has (document 01, 12 to 18)
-unfoldable pub tables_same : Bool → ℕ → List ℕ → Header → Tables → Bool
-tables_same strict S img h t =
-    let n = length t.fat in
+-- the image opens, and the fronts of the tables hold what it has (document 01, 12 to 18)
+unfoldable pub tables_same : Bool → ℕ → List ℕ → Header → ℕ → List ℕ → List ℕ → List ℕ → List ℕ → Bool
+tables_same strict S img h n fat fats difats marks =
     both (eqb (refusal (table_rows strict S img h n)) 0)
-    (both (same_list t.fat (open_fat S img h n))
-    (both (same_list t.fats (fats_in S img h n))
-    (both (same_list t.difats (difats_in S img h n))
-    (same_list t.marks (marks_of n (open_fat S img h n))))))
+    (both (same_list fat (open_fat S img h n))
+    (both (same_list fats (fats_in S img h n))
+    (both (same_list difats (difats_in S img h n))
+    (same_list marks (marks_of n (open_fat S img h n))))))
+
+-- the same of tables as long as the FAT; the free list is not looked at
+abbrev pub front_same : Bool → ℕ → List ℕ → Header → Tables → Bool
+front_same strict S img h t = tables_same strict S img h (length t.fat) t.fat t.fats t.difats t.marks
 
 -- each table holds zero past its count
 unfoldable pub tails_zero : ℕ → ℕ → ℕ → ℕ → Tables → Bool
@@ -86,10 +89,14 @@ pub record FatLent (S len : ℕ) (difats fats : List ℕ) (n room : ℕ) : Type 
   pub same : room ≡ n
 
 -- tables as long as n sectors ask for, and a scratch with a place for each sector
-pub record TablesLent (S len : ℕ) (t : Tables) (scratch : ℕ) : Type 0 where
-  pub counted : Counted S (length t.fat) len (length t.fats) (length t.difats)
-  pub marked : length t.marks ≡ length t.fat
-  pub below : length t.fat ≤ scratch
+pub record TablesLent (S len n k d marks scratch : ℕ) : Type 0 where
+  pub counted : Counted S n len k d
+  pub marked : marks ≡ n
+  pub below : n ≤ scratch
+
+-- the same of tables
+abbrev pub FrontLent : ℕ → ℕ → Tables → ℕ → Type 0
+FrontLent S len t scratch = TablesLent S len (length t.fat) (length t.fats) (length t.difats) (length t.marks) scratch
 
 -- lent tables that are long enough for n sectors of S bytes, and so is the scratch
 pub record WholeLent (S n len : ℕ) (t : Tables) (free scratch : ℕ) : Type 0 where

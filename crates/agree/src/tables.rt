@@ -2,7 +2,7 @@
 ghost use Rattle.std.specs.Prelude.{◌≡◌, length};
 ghost use Rattle.tables.specs.Tables.{tables_of};
 ghost use Rattle.fat.specs.Lists.{fat_of};
-ghost use Rattle.agree.specs.Parts.{FatLent, TablesLent, fat_same, tables_same};
+ghost use Rattle.agree.specs.Parts.{FatLent, FrontLent, fat_same, front_same};
 
 use crate::listed::same_lists;
 use compare::permissive::same_permissive;
@@ -41,8 +41,8 @@ pub fn same_tables(
     tables: Tables<'_>,
     scratch: &mut [u32],
 ) -> bool
-    requires { TablesLent s (length image.now) (tables_of tables) (length scratch.old) }
-    ensures { result ≡ tables_same strict s image.now h (tables_of tables.entry) }
+    requires { FrontLent s (length image.now) (tables_of tables) (length scratch.old) }
+    ensures { result ≡ front_same strict s image.now h (tables_of tables.entry) }
 {
     let n = tables.fat.len();
     let fats = tables.fats;

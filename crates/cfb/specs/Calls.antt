@@ -85,10 +85,6 @@ abbrev pub told_by : Result Done Refusal → List ℕ
 told_by (Ok d) = 0 ∷ d.ids ∷ d.start ∷ d.bytes ∷ []
 told_by (Err e) = number_of e ∷ []
 
--- the number among them: 0 for an acceptance
-abbrev pub answer_no : Result Done Refusal → ℕ
-answer_no a = get_or (told_by a) 0 0
-
 -- the numbers of a call that ends with k
 unfoldable pub told : ℕ → ℕ → ℕ → ℕ → List ℕ
 told k ids start bytes = choose (eqb k 0) (0 ∷ ids ∷ start ∷ bytes ∷ []) (k ∷ [])
