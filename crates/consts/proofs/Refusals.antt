@@ -4,7 +4,7 @@ use mathlib.Core.Path.{◌≡◌, refl, sym, ◌∙◌, ap}
 use mathlib.Core.List.{[], ◌∷◌}
 use native.Mathlib.Omega.{arith}
 use lib.ListN.{get_or}
-use Rattle.std.specs.Prelude.{Result, Ok, Err}
+use Rattle.std.specs.Prelude.{Result, Ok, Err, IfOk}
 use Rattle.consts.specs.Refusals.{number_of, ends_with}
 use Rattle.consts.specs.declared.refusal.Refusal.{Refusal}
 use Rattle.consts.specs.declared.refusal.Refusal.TheVariants.{TooShort, Signature, ByteOrder, Version, SectorShift, MiniSectorShift, DirSectors, Cutoff, HeaderList, WholeSectors, ShortTable, FatLists, FatTail, Unmarked, PastEnd, PointedTwice, InvalidEntry, FreePointee, Disagrees, BadStart, BrokenChain, Loop, Offset, NoRoom, MidChain, PermissiveChange}
@@ -86,3 +86,10 @@ ends_apart (Ok x) (Ok y) same = refl
 ends_apart (Ok x) (Err f) same = absurd (number_not f (sym same))
 ends_apart (Err e) (Ok y) same = absurd (number_not e same)
 ends_apart (Err e) (Err f) same = ap Err (number_apart e f same)
+
+-- two answers with one number are one, where what they accept with is told
+pub answers_apart : {A : Type 0} (r s : Result A Refusal) (x : A) → ends_with r ≡ ends_with s → IfOk r (λ y. y ≡ x) → IfOk s (λ y. y ≡ x) → r ≡ s
+answers_apart (Ok y) (Ok z) x same p q = ap Ok (p ∙ sym q)
+answers_apart (Ok y) (Err f) x same p q = absurd (number_not f (sym same))
+answers_apart (Err e) (Ok z) x same p q = absurd (number_not e same)
+answers_apart (Err e) (Err f) x same p q = ap Err (number_apart e f same)
