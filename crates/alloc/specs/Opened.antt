@@ -29,23 +29,17 @@ pub record Zeroed (S n len : ℕ) (t : Tables) : Type 0 where
   pub frees_long : n ≤ length t.frees
   pub marks_long : n ≤ length t.marks
 
--- the tables are loaded and judged (12 to 18): the number, and, where it is 0, what they hold
-pub record TablesLoaded (strict : Bool) (S : ℕ) (img : List ℕ) (h : Header) (n r : ℕ) (fat fats difats marks : List ℕ) : Type 0 where
-  pub number : r ≡ refusal (table_rows strict S img h n)
-  pub fat_holds : r ≡ 0 → fat ≡ open_fat S img h n
-  pub fats_hold : r ≡ 0 → fats ≡ fats_in S img h n
-  pub difats_hold : r ≡ 0 → difats ≡ difats_in S img h n
-  pub marks_hold : r ≡ 0 → marks ≡ marks_of n (open_fat S img h n)
+-- the tables are loaded and judged (12 to 18), with m elements lent for the free list: the number, and, where it is 0, how many sectors are FREE and what the tables hold
+pub record TablesLoaded (strict : Bool) (S : ℕ) (img : List ℕ) (h : Header) (n m : ℕ) (r : Result ℕ Refusal) (t : Tables) : Type 0 where
+  pub number : ends_with r ≡ refusal (table_rows strict S img h n)
+  pub free : IfOk r (λ free. free ≡ length (frees_of n (open_fat S img h n)))
+  pub fat_holds : ends_with r ≡ 0 → t.fat ≡ open_fat S img h n
+  pub fats_hold : ends_with r ≡ 0 → t.fats ≡ fats_in S img h n
+  pub difats_hold : ends_with r ≡ 0 → t.difats ≡ difats_in S img h n
+  pub frees_hold : ends_with r ≡ 0 → t.frees ≡ padded (frees_of n (open_fat S img h n)) m
+  pub marks_hold : ends_with r ≡ 0 → t.marks ≡ marks_of n (open_fat S img h n)
 
--- the tables but for the free list are loaded into the fronts of lent ones: the number, and, where it is 0, what they hold
-pub record TablesFilled (strict : Bool) (S : ℕ) (img : List ℕ) (h : Header) (n : ℕ) (t : Tables) (r : ℕ) (t' : Tables) : Type 0 where
-  pub number : r ≡ refusal (table_rows strict S img h n)
-  pub fat_holds : r ≡ 0 → t'.fat ≡ padded (open_fat S img h n) (length t.fat)
-  pub fats_hold : r ≡ 0 → t'.fats ≡ padded (fats_in S img h n) (length t.fats)
-  pub difats_hold : r ≡ 0 → t'.difats ≡ padded (difats_in S img h n) (length t.difats)
-  pub marks_hold : r ≡ 0 → t'.marks ≡ padded (marks_of n (open_fat S img h n)) (length t.marks)
-
--- every table is loaded: the number, and, where it is 0, how many sectors are FREE and what the tables hold
+-- every table is loaded into the fronts of lent ones: the number, and, where it is 0, how many sectors are FREE and what the tables hold
 pub record AllFilled (strict : Bool) (S : ℕ) (img : List ℕ) (h : Header) (n : ℕ) (t : Tables) (r : Result ℕ Refusal) (t' : Tables) : Type 0 where
   pub number : ends_with r ≡ refusal (table_rows strict S img h n)
   pub free : IfOk r (λ free. free ≡ length (frees_of n (open_fat S img h n)))

@@ -1,8 +1,7 @@
 // The opening of an image (document 01, "Opening an image").
 ghost use Rattle.std.specs.Prelude.{◌≡◌, length};
-ghost use Rattle.consts.specs.Refusals.{ends_with};
 ghost use Rattle.tables.specs.Tables.{tables_in, SameTables};
-ghost use Rattle.alloc.specs.Opened.{AllFilled, AllLoaded, Lent, OpenSays, Zeroed, TablesFilled};
+ghost use Rattle.alloc.specs.Opened.{AllFilled, AllLoaded, Lent, OpenSays, Zeroed};
 
 use crate::early::judge_early;
 use crate::tables::load_tables;
@@ -10,21 +9,21 @@ use consts::refusal::Refusal;
 use fat::listed::ceil;
 use fat::load::past_header;
 use header::{Header, Validation};
-use judge::entries::list_free;
 use tables::TablesMut;
 
-// Loads the tables of n sectors into the fronts of lent tables that are zero (12 to 18). The free list is scratch.
-pub(crate) fn fill_tables(
+// Loads every table of n sectors into the fronts of lent ones that are zero, and returns how many sectors are FREE. A refusal (12 to
+// 18) leaves rubbish in the tables. The free list may hold anything before.
+pub(crate) fn load_zeroed(
     image: &[u8],
     s: usize,
     n: usize,
     h: Header,
     strict: bool,
     tables: &mut TablesMut<'_>,
-) -> Result<(), Refusal>
+) -> Result<usize, Refusal>
     requires { Zeroed s n (length image.now) (tables_in tables.old) }
     ensures same { SameTables tables.old tables.new }
-    ensures filled { TablesFilled strict s image.now h n (tables_in tables.old) (ends_with result) (tables_in tables.new) }
+    ensures filled { AllFilled strict s image.now h n (tables_in tables.old) result (tables_in tables.new) }
 {
     let k = ceil(n, s / 4);
     let d = ceil(past_header(k), s / 4 - 1);
@@ -44,27 +43,6 @@ pub(crate) fn fill_tables(
         frees,
         &mut marks[..n],
     )
-}
-
-// Loads every table of n sectors into lent ones that are zero, and returns how many sectors are FREE. A refusal (12 to 18) leaves
-// rubbish in the tables.
-pub(crate) fn load_zeroed(
-    image: &[u8],
-    s: usize,
-    n: usize,
-    h: Header,
-    strict: bool,
-    tables: &mut TablesMut<'_>,
-) -> Result<usize, Refusal>
-    requires { Zeroed s n (length image.now) (tables_in tables.old) }
-    ensures same { SameTables tables.old tables.new }
-    ensures filled { AllFilled strict s image.now h n (tables_in tables.old) result (tables_in tables.new) }
-{
-    fill_tables(image, s, n, h, strict, tables)?;
-    let fat = &mut *tables.fat;
-    let frees = &mut *tables.frees;
-    frees.fill(0);
-    Ok(list_free(&fat[..n], frees))
 }
 
 // Loads every table of n sectors into lent ones, whatever they hold, and returns how many sectors are FREE. A refusal (12 to 18)

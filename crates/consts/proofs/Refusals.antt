@@ -4,7 +4,7 @@ use mathlib.Core.Path.{◌≡◌, refl, sym, ◌∙◌, ap}
 use mathlib.Core.List.{[], ◌∷◌}
 use native.Mathlib.Omega.{arith}
 use lib.ListN.{get_or}
-use Rattle.std.specs.Prelude.{Result, Ok, Err}
+use Rattle.std.specs.Prelude.{Result, Ok, Err, IfOk}
 use Rattle.std.proofs.lemmas.Result.{IfOk-at_ok}
 use Rattle.consts.specs.Refusals.{number_of, ends_with, Ends}
 use Rattle.consts.specs.declared.refusal.Refusal.{Refusal}
@@ -88,6 +88,13 @@ ends_apart (Ok x) (Err f) same = absurd (number_not f (sym same))
 ends_apart (Err e) (Ok y) same = absurd (number_not e same)
 ends_apart (Err e) (Err f) same = ap Err (number_apart e f same)
 
+-- two answers with one number are one, where what they accept with is told
+pub answers_apart : {A : Type 0} (r s : Result A Refusal) (x : A) → ends_with r ≡ ends_with s → IfOk r (λ y. y ≡ x) → IfOk s (λ y. y ≡ x) → r ≡ s
+answers_apart (Ok y) (Ok z) x same p q = ap Ok (p ∙ sym q)
+answers_apart (Ok y) (Err f) x same p q = absurd (number_not f (sym same))
+answers_apart (Err e) (Ok z) x same p q = absurd (number_not e same)
+answers_apart (Err e) (Err f) x same p q = ap Err (number_apart e f same)
+
 -- an answer that ends with k: a refusal has that number, and what is accepted is what the answer carries
 module _ {A : Type 0} {k : ℕ} {v : A} where
   pub refusal_ends : (e : Refusal) → number_of e ≡ k → Ends k v (Err e)
@@ -104,10 +111,3 @@ module _ {A : Type 0} {k : ℕ} {v : A} where
 
   pub ends_same : {r : Result A Refusal} {l : ℕ} → k ≡ l → Ends k v r → Ends l v r
   ends_same e a = record { number = a.number ∙ e; value = a.value }
-
--- any two answers that end so are one
-pub ends_unique : {A : Type 0} {k : ℕ} {v : A} (r s : Result A Refusal) → Ends k v r → Ends k v s → r ≡ s
-ends_unique (Ok x) (Ok y) a b = ap Ok (a.value ∙ sym b.value)
-ends_unique (Ok x) (Err f) a b = absurd (number_not f (b.number ∙ sym a.number))
-ends_unique (Err e) (Ok y) a b = absurd (number_not e (a.number ∙ sym b.number))
-ends_unique (Err e) (Err f) a b = ap Err (number_apart e f (a.number ∙ sym b.number))

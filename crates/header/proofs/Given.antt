@@ -19,7 +19,7 @@ use Rattle.words.proofs.Laws.{le_below}
 use Rattle.consts.specs.Consts.{max_regular, invalid_sector, end_of_chain, free_sector}
 use Rattle.fields.specs.Fields.{entry_at, list_of, ids_in, all_free, ids_then_free, unreadable}
 use Rattle.header.specs.Versions.{major_of, shift_of, version_of, is_strict}
-use Rattle.header.specs.Read.{unknown, counts_dirs, read_rows, read_no, ReadSays}
+use Rattle.header.specs.Read.{unknown, counts_dirs, read_rows, read_no, header_of, ReadSays}
 use Rattle.header.specs.Write.{write_rows, write_no, WriteSays}
 use Rattle.header.specs.Causes.{Broken, GoodList, Cause, WriteCause}
 use Rattle.header.specs.declared.Version.{Version}
@@ -28,8 +28,8 @@ use Rattle.header.specs.declared.Validation.{Validation}
 use Rattle.header.specs.declared.Validation.TheVariants.{Permissive, Strict}
 use Rattle.header.specs.declared.Header.{Header}
 use Rattle.consts.specs.declared.refusal.Refusal.{Refusal}
-use Rattle.consts.proofs.Refusals.{number_apart, number_not, ends_apart}
-use Rattle.std.specs.Prelude.{Result, Ok, Err}
+use Rattle.consts.proofs.Refusals.{ends_apart, answers_apart}
+use Rattle.std.specs.Prelude.{Result}
 use Rattle.fields.proofs.Listed.{ids_within}
 
 -- the ids that a list begins with are sector numbers
@@ -261,10 +261,7 @@ module _ (h : Header) (n : ℕ) where
 
 -- any two results that the reader's contract permits are the same
 pub read_unique : (b : List ℕ) (m : Validation) (r s : Result Header Refusal) → ReadSays b m r → ReadSays b m s → r ≡ s
-read_unique b m (Ok h) (Ok g) p q = ap Ok (p.header ∙ sym q.header)
-read_unique b m (Ok h) (Err e) p q = absurd (number_not e (q.number ∙ sym p.number))
-read_unique b m (Err e) (Ok g) p q = absurd (number_not e (p.number ∙ sym q.number))
-read_unique b m (Err e) (Err f) p q = ap Err (number_apart e f (p.number ∙ sym q.number))
+read_unique b m r s p q = answers_apart r s (header_of b) (p.number ∙ sym q.number) p.header q.header
 
 -- any two results that the writer's contract permits are the same, answer and buffer
 pub write_unique : (h : Header) (b after after' : List ℕ) (r s : Result (Unit {0}) Refusal) → WriteSays h b after r → WriteSays h b after' s → (after ≡ after') × (r ≡ s)
