@@ -15,11 +15,4 @@ overflow_add-self c =
     omega (arith, c.requires.fits_one.room, c.requires.fits_one.fits.few, ap (λ (d : Disk). d.sectors) c.set_fat.ensures.disk, ap (λ (d : Disk). d.sectors) c.link_difat.ensures.disk)
 
 pub returns : goal.returns
-returns c =
-    record {
-      same = search rules;
-      disk = difat_appended _ _ _ _ _ _ _ c.init_at.ensures c.set_fat.ensures.disk (rw c.set_fat.ensures.same.len at c.link_difat.ensures.disk) c.put_number.ensures;
-      frees = search rules;
-      free = search rules;
-      marks = search rules;
-    }
+returns c = search (rules, difat_appended _ _ _ _ _ _ _ c.init_at.ensures c.set_fat.ensures.disk (rw c.set_fat.ensures.same.len at c.link_difat.ensures.disk) c.put_number.ensures)

@@ -1,7 +1,6 @@
 -- Where there is no DIFAT sector the link is the header's field; else it is the last entry of the last one.
-use Rattle.std.proofs.Common.{rules, refl}
+use Rattle.std.proofs.Common.{rules, ne_eqb}
 use Rattle.disk.specs.Disk.{store, link_place}
-use borrow.Author.Tests.{eq-eqb, ne_eqb}
 use Rattle.disk.proofs.disk.Hand.link_difat.Goals as goal
 
 pub returns-then-j-eq0 : goal.returns-then-j-eq0
@@ -10,4 +9,4 @@ returns-then-j-eq0 c = search rules
 
 pub returns : goal.returns
 unfolding store link_place
-returns c = record { same = search rules; disk = rw (c.put_at.ensures, ne_eqb _ _ c.if-j-eq0.false); frees = refl; free = refl; marks = refl }
+returns c = search rules

@@ -4,11 +4,4 @@ use Rattle.disk.proofs.Growing.{reused_of}
 use Rattle.disk.proofs.disk.Hand.reuse.Goals as goal
 
 pub returns : goal.returns
-returns c =
-    record {
-      same = search rules;
-      disk = reused_of _ _ _ _ _ c.set_fat.ensures.disk (rw c.set_fat.ensures.same.len at c.init_at.ensures);
-      frees = c.set_fat.ensures.frees;
-      free = c.set_fat.ensures.free;
-      marks = c.set_fat.ensures.marks;
-    }
+returns c = search (rules, reused_of _ _ _ _ _ c.set_fat.ensures.disk (rw c.set_fat.ensures.same.len at c.init_at.ensures))

@@ -1,9 +1,9 @@
 -- The entry stands in the FAT sector that the table names.
-use Rattle.std.proofs.Common.{rules, refl}
+use Rattle.std.proofs.Common.{rules}
 use Rattle.disk.specs.Disk.{entry_place}
 use Rattle.disk.specs.Disk.{set_fat as fat_set}
 use Rattle.disk.proofs.disk.Hand.set_fat.Goals as goal
 
 pub returns : goal.returns
 unfolding fat_set entry_place
-returns c = record { same = search rules; disk = rw c.put_at.ensures; frees = refl; free = refl; marks = refl }
+returns c = search rules
