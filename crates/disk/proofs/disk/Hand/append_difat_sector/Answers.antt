@@ -1,23 +1,18 @@
 -- Each store lies within the image, which keeps its length, and the stores one after another are the definition's.
-use mathlib.Core.Path.{◌∙◌}
-use Rattle.disk.proofs.Growing.{one_new, one_entry, one_link, difat_appended}
+use Rattle.std.proofs.Common.{rules, arith, ap, ◌∙◌}
+use Rattle.disk.specs.Disk.{Disk, set_fat, store}
+use Rattle.disk.proofs.Growing.{one_link, difat_appended}
 use Rattle.disk.proofs.disk.Hand.append_difat_sector.Goals as goal
-
-pub init_at-requires : goal.init_at-requires
-init_at-requires c =
-    let given = one_new _ _ _ _ c.requires.fits_one in
-    record { s_in_bounds = given.0; s_value = given.1 }
-
-pub set_fat-requires : goal.set_fat-requires
-set_fat-requires c =
-    let given = one_entry _ _ _ _ c.requires.fits_one _ c.init_at.auto.image in
-    record { s_value = given.0; i_in_bounds = given.1.0; s_in_bounds = given.1.1 }
 
 pub link_difat-requires : goal.link_difat-requires
 link_difat-requires c =
-    let given = one_link _ _ _ _ c.requires.fits_one _ (c.set_fat.auto.image ∙ c.init_at.auto.image) in
-    record { le_s = given.0; j_in_bounds = given.1 }
+    let given = one_link _ _ _ _ c.requires.fits_one _ _ c.set_fat.ensures.disk (c.set_fat.ensures.same.image_long ∙ c.init_at.auto.image) in
+    rw c.set_fat.ensures.same.len (record { le_s = given.0; j_in_bounds = given.1 })
+
+pub overflow_add-self : goal.overflow_add-self
+unfolding set_fat store
+overflow_add-self c =
+    omega (arith, c.requires.fits_one.room, c.requires.fits_one.fits.few, ap (λ (d : Disk). d.sectors) c.set_fat.ensures.disk, ap (λ (d : Disk). d.sectors) c.link_difat.ensures.disk)
 
 pub returns : goal.returns
-returns c =
-    difat_appended _ _ _ _ _ _ _ _ _ _ _ _ c.init_at.ensures c.set_fat.ensures.0 c.set_fat.ensures.1 c.link_difat.ensures c.put_number.ensures
+returns c = search (rules, difat_appended _ _ _ _ _ _ _ c.init_at.ensures c.set_fat.ensures.disk (rw c.set_fat.ensures.same.len at c.link_difat.ensures.disk) c.put_number.ensures)

@@ -1,5 +1,6 @@
 -- The sector's own entry stands in it; once it is marked there is room for its place, and the stores are the definition's.
-use native.Mathlib.Omega.{arith}
+use Rattle.std.proofs.Common.{rules, arith, ap}
+use Rattle.disk.specs.Disk.{Disk, set_fat}
 use Rattle.disk.proofs.Growing.{full_new, full_listed, full_entry, fat_marked_lem, fat_place, fat_appended}
 use Rattle.disk.proofs.disk.Hand.append_fat_sector.Goals as goal
 
@@ -8,27 +9,20 @@ init_at-requires c =
     let given = full_new _ _ _ c.requires in
     record { s_in_bounds = given.0; s_value = given.1 }
 
-pub offset_bounds-fats-k : goal.offset_bounds-fats-k
-offset_bounds-fats-k c = omega (arith, (full_listed _ _ _ c.requires).1)
-
-pub bounds-fats-k : goal.bounds-fats-k
-bounds-fats-k c = (full_listed _ _ _ c.requires).0
+pub bounds-self-k : goal.bounds-self-k
+bounds-self-k c = (full_listed _ _ _ c.requires).0
 
 pub set_fat-requires : goal.set_fat-requires
 set_fat-requires c =
     let given = full_entry _ _ _ c.requires _ c.init_at.auto.image in
     record { s_value = given.0; i_in_bounds = given.1.0; s_in_bounds = given.1.1 }
 
-pub list_place-count-requires : goal.list_place-count-requires
-list_place-count-requires c =
-    fat_place _ _ _ c.requires (fat_marked_lem _ _ _ _ _ _ _ _ _ c.init_at.ensures c.set_fat.ensures.0 c.set_fat.ensures.1)
+pub overflow_add-self : goal.overflow_add-self
+unfolding set_fat
+overflow_add-self c = omega (arith, c.requires.fits.inside, c.requires.fits.few, ap (λ (d : Disk). d.sectors) c.set_fat.ensures.disk)
 
-pub overflow_add-k : goal.overflow_add-k
-overflow_add-k c = omega (arith, (full_listed _ _ _ c.requires).1)
-
-pub overflow_cast-k : goal.overflow_cast-k
-overflow_cast-k c = omega (arith, (full_listed _ _ _ c.requires).1)
+pub list_place-requires : goal.list_place-requires
+list_place-requires c = rw c.set_fat.ensures.same.len (fat_place _ _ _ c.requires (fat_marked_lem _ _ _ _ c.init_at.ensures c.set_fat.ensures.disk))
 
 pub returns : goal.returns
-returns c =
-    fat_appended _ _ _ _ _ _ _ _ _ (fat_marked_lem _ _ _ _ _ _ _ _ _ c.init_at.ensures c.set_fat.ensures.0 c.set_fat.ensures.1) c.list_place-count.ensures c.put_number.ensures
+returns c = search (rules, fat_appended _ _ _ _ _ _ _ _ _ (fat_marked_lem _ _ _ _ c.init_at.ensures c.set_fat.ensures.disk) (rw c.set_fat.ensures.same.len at c.list_place.ensures.disk) c.put_number.ensures)

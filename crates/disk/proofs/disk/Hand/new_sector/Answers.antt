@@ -1,16 +1,25 @@
 -- What is ready has room for the sector's entry and its bytes.
+use Rattle.std.proofs.Common.{rules, arith, ap}
+use Rattle.disk.specs.Disk.{Disk}
+use Rattle.disk.proofs.Fitting.{ready_room}
 use Rattle.disk.proofs.Growing.{new_entry, new_bytes, new_made}
 use Rattle.disk.proofs.disk.Hand.new_sector.Goals as goal
 
 pub set_fat-requires : goal.set_fat-requires
 set_fat-requires c =
-    let given = new_entry _ _ _ _ c.requires c.make_ready-id.ensures in
-    record { s_value = given.0; i_in_bounds = given.1.0; s_in_bounds = given.1.1 }
+    let given = new_entry _ _ _ _ c.requires c.make_ready.ensures.disk in
+    rw c.make_ready.ensures.same.len (record { s_value = given.0; i_in_bounds = given.1.0; s_in_bounds = given.1.1 })
 
 pub init_at-requires : goal.init_at-requires
 init_at-requires c =
-    let given = new_bytes _ _ _ _ c.requires c.make_ready-id.ensures _ c.set_fat.auto.image in
-    record { s_in_bounds = given.0; s_value = given.1 }
+    let given = new_bytes _ _ _ _ c.requires c.make_ready.ensures.disk _ c.set_fat.ensures.same.image_long in
+    rw (c.set_fat.ensures.same.len, c.make_ready.ensures.same.len) (record { s_in_bounds = given.0; s_value = given.1 })
 
-pub returns : goal.returns
-returns c = new_made _ _ _ _ _ _ _ _ _ _ c.make_ready-id.ensures c.set_fat.ensures.0 c.set_fat.ensures.1 c.init_at.ensures
+pub overflow_add-self : goal.overflow_add-self
+overflow_add-self c = omega (arith, ready_room _ _ _ c.requires, c.requires.fits.few, ap (λ (d : Disk). d.sectors) c.make_ready.ensures.disk)
+
+pub overflow_cast-result : goal.overflow_cast-result
+overflow_cast-result c = omega (arith, ready_room _ _ _ c.requires, c.requires.fits.few, ap (λ (d : Disk). d.sectors) c.make_ready.ensures.disk)
+
+pub returns-clause-disk : goal.returns-clause-disk
+returns-clause-disk c = search (rules, new_made _ _ _ _ _ c.make_ready.ensures.disk (rw c.make_ready.ensures.same.len at c.set_fat.ensures.disk) (rw (c.set_fat.ensures.same.len, c.make_ready.ensures.same.len) at c.init_at.ensures))
