@@ -12,7 +12,6 @@ use Rattle.std.proofs.lemmas.List.{get_or-take, get_or-drop}
 use Rattle.std.proofs.lemmas.Nat.{div-mul-add, mod-mul-add}
 use Rattle.lists.proofs.Cases.{below_or}
 use Rattle.sectors.specs.Sectors.{start_of}
-use Rattle.sectors.proofs.Laws.{scaled}
 use Rattle.chain.specs.Bytes.{Lies}
 
 -- byte o is in one of the sectors listed, which lie in an image of len bytes
@@ -21,12 +20,9 @@ pub record Stands (S len : ℕ) (ids : List ℕ) (o : ℕ) : Type 0 where
   pub place : o / S < length ids
 
 module _ {S len : ℕ} {ids : List ℕ} {o : ℕ} (b : Stands S len ids o) where
-  -- its sector lies in the image, and has a number below the image's length
+  -- its sector lies in the image
   pub stands_inside : start_of S (get_or ids (o / S) 0) + S ≤ len
   stands_inside = b.lies.inside (o / S) b.place
-
-  pub stands_id : get_or ids (o / S) 0 < len
-  stands_id = omega (arith, stands_inside, scaled (get_or ids (o / S) 0 + 1) S b.lies.some)
 
   -- and it has a place within that sector
   pub stands_byte : o % S < S
@@ -50,8 +46,8 @@ turns_begun S ids offset count end some few ends =
     record { some = some; few = few; ends = ends; byte = omega (arith, div-add-mod offset S); most = omega (arith, div-add-mod offset S) }
 
 module _ {S : ℕ} {ids : List ℕ} {offset count end turn x done : ℕ} (b : Turns S ids offset count end turn x done) where
-  ends_within : ((offset + count) ≤ end * S) × (end * S < offset + count + S)
-  ends_within = rw (b.ends) (div_ceil_times (offset + count) S b.some)
+  ends_within : (offset + count ≤ end * S) × (end * S < offset + count + S)
+  ends_within = rw b.ends (div_ceil_times (offset + count) S b.some)
 
   -- the chain has these sectors
   turns_few : end ≤ length ids
