@@ -9,6 +9,7 @@ use borrow.Author.Tests.{lt-ltb, ltb-true, eq-eqb, ne_eqb, eqb-true, eqb-false, 
 use lib.Dec.{eqb, ltb}
 use lib.ListN.{length, get_or, set}
 use lib.Seq.{get_or-set_same, get_or-set_other}
+use Rattle.std.proofs.lemmas.Grind.{get_or_default_zero}
 use Rattle.lists.specs.Lists.{every}
 use Rattle.lists.proofs.Cases.{same_or, below_or, every_at, every_yes, every_no, unlike, every_of, same_test}
 use Rattle.fat.specs.Lists.{all_below, different}
@@ -27,6 +28,10 @@ below_exactly n xs = (below_at n xs, below_of n xs)
 
 pub below_kept : (n m : ℕ) (xs : List ℕ) → m ≡ n → all_below n xs ≡ true → all_below m xs ≡ true
 below_kept n m xs e t = rw e t
+
+-- so at what an iterator over the list has left
+pub below_left : (n : ℕ) (xs left : List ℕ) → left ≡ xs → all_below n xs ≡ true → (i d : ℕ) → i < length left → get_or left i d < n
+below_left n xs left e t i d h = rw (get_or_default_zero left i d h) (below_at n left (rw e t) i h)
 
 -- an index that a list of such numbers gives
 pub below_given : (n m : ℕ) (xs : List ℕ) (i at : ℕ) → all_below n xs ≡ true → i < length xs → at ≡ get_or xs i 0 → m ≡ n → at < m
