@@ -17,7 +17,7 @@ use Rattle.sectors.specs.Sectors.{sector_of, per_sector, entry_in, entry_of, fre
 use Rattle.sectors.proofs.Laws.{entry_in_sector}
 use Rattle.consts.specs.Consts.{free_sector}
 use Rattle.fat.specs.Lists.{difat_at, difats_of, place_at, fats_of, fat_of, all_below, ends, tail_free}
-use Rattle.fat.specs.Loaded.{ChainListed, Places, PlacesListed}
+use Rattle.fat.specs.Loaded.{ChainListed, PlacesListed}
 
 -- a list that is a table of values is below n where the values are
 pub below_tab : (n : ℕ) (f : ℕ → ℕ) (d : ℕ) → all_below n (tab f d) ≡ every d (λ i. ltb (f i) n)
@@ -108,10 +108,6 @@ places_end S img n list difats j before now s e =
     let all = filling_all (place_at S img list difats) n j before now s e in
     record { right = sym all.0; listed = λ t. all.1 }
 
--- fewer places can be read where more can
-pub fewer_places : (S n len : ℕ) (list difats : List ℕ) (k j : ℕ) → Places S n len list difats k → j ≤ 109 + length difats * (per_sector S - 1) → Places S n len list difats j
-fewer_places S n len list difats k j p h = record { holds = p.holds; whole = p.whole; below = p.below; there = h; small = p.small }
-
 -- where sector p of the FAT begins among the m entries
 pub sector_begins : (p k e m : ℕ) → p < k → k * e < m + e → p * e < m
 sector_begins p k e m h l = let q : (p + 1) * e ≤ k * e = mul-le-mul_right e (omega arith) in omega (arith, add-mul p 1 e, one-mul e)
@@ -162,9 +158,3 @@ tail_last S img fats n k e low high =
     (λ i l.
     let p : n + i ≡ k * per_sector S + (n - k * per_sector S + i) = omega arith in
     ap (λ (v : ℕ). eqb v free_sector) (sym (ap (entry_of S img fats) p ∙ entry_in_sector S img fats k (n - k * per_sector S + i) (omega arith))))
-
--- the last of k sectors reaches as far as all of them
-pub sector_reaches : (k e m : ℕ) → 1 ≤ k → m ≤ k * e → m ≤ (k - 1) * e + e
-sector_reaches k e m h l =
-    let q : (k - 1 + 1) * e ≡ k * e = ap (λ (x : ℕ). x * e) (omega arith) in
-    omega (arith, add-mul (k - 1) 1 e, one-mul e)
