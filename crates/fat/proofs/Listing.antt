@@ -6,13 +6,10 @@ use mathlib.Core.List.{List}
 use mathlib.Core.Logic.{⊎_elim}
 use native.Mathlib.Nat.{div-mul-le_self, lt-div-mul-add, mul-le-mul_right, add-mul, one-mul}
 use native.Mathlib.Omega.{arith}
-use borrow.Author.Tests.{eq-eqb}
-use lib.Dec.{eqb}
 use lib.ListN.{length}
 use Rattle.std.proofs.lemmas.Grind.{div_ceil_times}
 use Rattle.lists.specs.Lists.{both}
 use Rattle.lists.proofs.Cases.{below_or, both_left, both_right, both_false_left, both_false_right, not_both}
-use Rattle.fields.specs.Fields.{ids_in}
 use Rattle.header.specs.declared.Header.{Header}
 use Rattle.fat.specs.Lists.{ceil, fat_count, difat_count, counts_right, difat_at, difats_of, fats_of, all_below, different, ends, chain_right, rest_free, ids_right, fats_right, difats_in, fats_in, lists_right}
 use Rattle.fat.specs.Loaded.{ChainListed, Places, PlacesListed, Loads, ListsLoaded, Counted}
@@ -75,11 +72,6 @@ module _ (S : ℕ) (img : List ℕ) (n : ℕ) (list difats : List ℕ) (k : ℕ)
   unfolding fats_right ids_right
   fats_load r q now c e f g =
       record { right = g ∙ ap different (c.listed e) ∙ sym (rw (f, sym c.right ∙ e)); list = λ t. c.listed e }
-
--- the counts, once the first two are seen to be right
-pub counts_same : (h : Header) (k d ids m : ℕ) → h.fats ≡ k → h.difats ≡ d → ids ≡ ids_in h.list → m ≡ min k 109 → eqb ids m ≡ counts_right h k d
-unfolding counts_right
-counts_same h k d ids m ek ed ei em = sym (rw (eq-eqb _ _ ek, eq-eqb _ _ ed, ← ei, ← em))
 
 -- the counts of lists that n sectors ask for are small, and their places reach as far as they must
 pub ceil_enough : (a b : ℕ) → 1 ≤ b → (a ≤ ceil a b * b) × (ceil a b * b < a + b)

@@ -4,7 +4,7 @@ use mathlib.Core.Path.{◌≡◌, refl, sym, ◌∙◌, ap}
 use mathlib.Core.Bool.{Bool, true, false}
 use mathlib.Core.List.{List, ◌++◌}
 use native.Mathlib.Omega.{arith}
-use native.Mathlib.Nat.{div-lt_iff_lt-mul, mod-lt, mul-le-mul_right, add-mul, one-mul, zero-mul}
+use native.Mathlib.Nat.{div-lt_iff_lt-mul, mul-le-mul_right, add-mul, one-mul, zero-mul}
 use native.Mathlib.Numerals.{add-one}
 use borrow.Author.Tests.{lt-ltb, le-ltb}
 use lib.Dec.{eqb, ltb}
@@ -88,12 +88,9 @@ pub place_high : (S : ℕ) (img list difats : List ℕ) (p v : ℕ) → 109 ≤ 
 unfolding place_at
 place_high S img list difats p v h e = e ∙ sym (rw (le-ltb p 109 h))
 
--- the DIFAT sector that holds a place, and the slot in it
+-- the DIFAT sector that holds a place
 pub place_index : (p d e : ℕ) → 1 ≤ e → p < 109 + d * e → 109 ≤ p → (p - 109) / e < d
 place_index p d e pos h l = (div-lt_iff_lt-mul {k = e} {x = p - 109} {y = d} pos).1 (omega arith)
-
-pub place_slot : (S p : ℕ) → S ≡ 4 * per_sector S → 2 ≤ per_sector S → 4 * ((p - 109) % (per_sector S - 1)) + 4 ≤ S
-place_slot S p e two = omega (arith, mod-lt (p - 109) {m = per_sector S - 1} (omega arith))
 
 -- the places are listed, or stop at one that is not below n
 pub places_stop : (S : ℕ) (img : List ℕ) (n : ℕ) (list difats : List ℕ) (k j : ℕ) (fats : List ℕ) → j < k → n ≤ place_at S img list difats j → PlacesListed S img n list difats k false fats

@@ -38,10 +38,9 @@ pub fn place_at(image: &[u8], s: usize, n: usize, list: &[u32], difats: &[u32], 
     if p < 109 {
         return list[p];
     }
+    let past = p - 109;
     let each = s / 4 - 1;
-    let q = (p - 109) / each;
-    let id = difats[q] as usize;
-    sectors::entry_at(image, s, id, (p - 109) % each)
+    sectors::entry_at(image, s, difats[past / each] as usize, past % each)
 }
 
 // How many of k places lie past the header.
