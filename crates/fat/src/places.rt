@@ -18,11 +18,8 @@ pub fn put_places(list: &[u32], scratch: &mut [u32])
         → (get_or scratch.new (get_or list.now j 0) 0 < length list.now)
         × (get_or list.now (get_or scratch.new (get_or list.now j 0) 0) 0 ≡ get_or list.now j 0) }
 {
-    let mut j = 0;
-    while j < list.len() {
-        let i = index(list[j]);
-        scratch[i] = j as u32;
-        j += 1;
+    for (j, id) in list.iter().enumerate() {
+        scratch[*id as usize] = j as u32;
     }
 }
 
@@ -31,16 +28,9 @@ pub fn places_stand(list: &[u32], scratch: &[u32]) -> bool
     requires { all_below (length scratch.now) list.now ≡ true }
     ensures { result ≡ every (length list.now) (λ j. eqb (get_or scratch.now (get_or list.now j 0) 0) j) }
 {
-    let mut stand = true;
-    let mut j = 0;
-    while j < list.len() {
-        let i = index(list[j]);
-        if index(scratch[i]) != j {
-            stand = false;
-        }
-        j += 1;
-    }
-    stand
+    list.iter().enumerate().fold(true, |stand, (j, id)| {
+        stand & (scratch[*id as usize] as usize == j)
+    })
 }
 
 // Whether no number stands twice in the list. The scratch may hold anything before; what it holds after is not said.

@@ -8,8 +8,8 @@ ghost use Rattle.judge.specs.Judge.{all_marked};
 ghost use Rattle.judge.specs.Judged.{FatJudged};
 
 use crate::entries::{judge, none_dangles};
-use consts::refusal::Refusal;
 use crate::marks::{listed_marked, set_listed};
+use consts::refusal::Refusal;
 
 // Whether a listed sector lacks its mark, and that matters.
 pub fn unmarked(strict: bool, fat: &[u32], difats: &[u32], fats: &[u32]) -> bool
@@ -17,13 +17,10 @@ pub fn unmarked(strict: bool, fat: &[u32], difats: &[u32], fats: &[u32]) -> bool
     requires fats_value { all_below (length fat.now) fats.now ≡ true }
     ensures { result ≡ both strict (not (both (all_marked fat.now difats.now difat_sector) (all_marked fat.now fats.now fat_sector))) }
 {
-    if !strict {
-        return false;
-    }
-    !listed_marked(fat, difats, fats)
+    strict && !listed_marked(fat, difats, fats)
 }
 
-// Judges a loaded FAT: 0, or 14 to 18. At 0 the FAT is marked and forgiven, and each pointed-to sector marked.
+// Judges a loaded FAT: refused with 14 to 18, or else the FAT is marked and forgiven, and each pointed-to sector marked.
 pub fn judge_fat(
     strict: bool,
     fat: &mut [u32],
