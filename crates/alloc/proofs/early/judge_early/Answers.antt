@@ -1,16 +1,13 @@
 -- The causes are tested in the order of their numbers: at a return those before it are passed, by the laws of First.
-use Prim.Native.Nat.{ℕ, ◌%◌, ◌≤◌}
 use mathlib.Core.Path.{◌≡◌, sym, ◌∙◌, ap}
 use native.Mathlib.Omega.{arith}
-use lib.ListN.{length}
 use Rattle.std.proofs.lemmas.Result.{err_from_is_err_and}
 use Rattle.consts.specs.declared.refusal.Refusal.TheVariants.{TooShort, WholeSectors, ShortTable}
 use Rattle.consts.proofs.Refusals.{number_not}
 use Rattle.header.specs.Versions.{length_of}
 use Rattle.header.specs.Read.{read_no, header_of}
 use Rattle.header.specs.declared.Header.{Header}
-use Rattle.fat.specs.Lists.{room_of}
-use Rattle.alloc.proofs.First.{early_below, early_above, early_header, early_odd, early_many, early_short, early_passed, early_no, length_some, one_whole}
+use Rattle.alloc.proofs.First.{early_below, early_above, early_header, early_odd, early_many, early_short, early_passed, early_no, one_whole}
 use Rattle.alloc.proofs.early.judge_early.Goals as goal
 use Rattle.alloc.proofs.early.judge_early.Goals.{After-sector_len-len}
 
