@@ -1,5 +1,5 @@
 -- Lent tables that were zero hold what was loaded into their fronts, and zeros after it. Assumes nothing.
-use Prim.Native.Nat.{ℕ, ◌+◌, ◌-◌, ◌≤◌, ◌<◌}
+use Prim.Native.Nat.{ℕ, ◌≤◌}
 use mathlib.Core.Path.{◌≡◌, refl, sym, ◌∙◌, ap}
 use mathlib.Core.Bool.{Bool, true, false}
 use mathlib.Core.List.{List, ◌++◌}
@@ -15,13 +15,11 @@ use Rattle.fat.specs.Loaded.{Counted}
 use Rattle.alloc.specs.Opened.{TablesLoaded, Zeroed, AllFilled, AllLoaded, Lent}
 use Rattle.std.specs.Prelude.{Result, Ok, Err}
 use Rattle.std.specs.Result.{is_err}
-use Rattle.lists.specs.Rows.{refusal}
-use Rattle.consts.specs.Refusals.{number_of}
 use Rattle.consts.specs.declared.refusal.Refusal.{Refusal}
 use Rattle.consts.proofs.Refusals.{number_not}
 use Rattle.tables.specs.Tables.{tables_in, zeroed, SameTables}
 use Rattle.tables.specs.declared.TablesMut.{TablesMut}
-use Rattle.alloc.specs.Opening.{Tables, open_fat, padded, table_rows}
+use Rattle.alloc.specs.Opening.{Tables, open_fat, padded}
 
 -- the front of a list of zeros
 pub zero_front : (xs : List ℕ) (n : ℕ) → xs ≡ replicate (length xs) 0 → n ≤ length xs → take n xs ≡ replicate n 0

@@ -1,16 +1,12 @@
 -- The causes are tested in the order of their numbers: at a return those before it are passed, by the laws of First.
-use Prim.Native.Nat.{ℕ, ◌%◌, ◌≤◌}
 use mathlib.Core.Path.{◌≡◌, sym, ◌∙◌, ap}
-use native.Mathlib.Omega.{arith}
-use lib.ListN.{length}
 use Rattle.std.proofs.lemmas.Result.{err_from_is_err_and}
 use Rattle.consts.specs.declared.refusal.Refusal.TheVariants.{TooShort, WholeSectors, ShortTable}
 use Rattle.consts.proofs.Refusals.{number_not}
 use Rattle.header.specs.Versions.{length_of}
 use Rattle.header.specs.Read.{read_no, header_of}
 use Rattle.header.specs.declared.Header.{Header}
-use Rattle.fat.specs.Lists.{room_of}
-use Rattle.alloc.proofs.First.{early_below, early_above, early_header, early_odd, early_many, early_short, early_passed, early_no, length_some, one_whole}
+use Rattle.alloc.proofs.First.{early_below, early_above, early_header, early_odd, early_many, early_short, early_passed, early_no}
 use Rattle.alloc.proofs.early.judge_early.Goals as goal
 use Rattle.alloc.proofs.early.judge_early.Goals.{After-sector_len-len}
 
@@ -37,9 +33,6 @@ pub returns-then-used-len-ne0 : goal.returns-then-used-len-ne0
 returns-then-used-len-ne0 c =
     let at = (goal.at.returns-then-used-len-ne0 c).After-sector_len-len in
     early_no _ _ _ _ WholeSectors (early_odd _ _ _ _ c.if-used-lt-HEADER_LEN.false c.if-image-used.false (read at) _ (own at) c.if-used-len-ne0.true)
-
-pub overflow_sub-sectors : goal.overflow_sub-sectors
-overflow_sub-sectors c = one_whole _ _ (omega (arith, c.if-used-lt-HEADER_LEN.false)) c.if-used-len-ne0.false
 
 pub returns-then-sectors-gt-MOST : goal.returns-then-sectors-gt-MOST
 returns-then-sectors-gt-MOST c =

@@ -61,4 +61,6 @@ load_tables-requires c =
 pub returns-clause-filled : goal.returns-clause-filled
 returns-clause-filled c =
     let at = (goal.at.returns-clause-filled c).After-ceil-d in
-    filled c.requires (length-take-le _ _ c.requires.fat_long) (count_fats at) (count_difats at) c.load_tables.ensures
+    let new = c.load_tables.new in
+    filled c.requires {o = record { fat = new.fat; fats = new.fats; difats = new.difats; frees = new.frees; marks = new.marks }}
+    (length-take-le _ _ c.requires.fat_long) (count_fats at) (count_difats at) c.load_tables.ensures

@@ -50,7 +50,7 @@ pub returns-in_err-judge_fat : goal.returns-in_err-judge_fat
 returns-in_err-judge_fat c =
     let e = err_from_is_err_and c.from_residual.result c.from_residual.ensures.1 in
     rw (e.1, e.2)
-    (tables_wrong _ _ _ _ _ _ c.load_lists.ensures c.if-not-load_lists.false c.tail_free.ensures c.if-not-tail_free.false c.load_fat.ensures c.load_fat.auto.fat c.in_err-judge_fat.ensures)
+    (tables_wrong _ _ _ _ _ _ c.load_lists.ensures c.if-not-load_lists.false c.tail_free.ensures c.if-not-tail_free.false c.load_fat.ensures c.load_fat.auto.fat {o = record { fat = c.judge_fat.new.fat; fats = c.load_lists.new.fats; difats = c.load_lists.new.difats; frees = c.load_lists.new.scratch; marks = c.judge_fat.new.marks }} c.in_err-judge_fat.ensures)
 
 pub returns : goal.returns
 returns c =
