@@ -143,9 +143,9 @@ module _ (s : State) (img : List ℕ) (t : Tables) (ids : List ℕ) (start : ℕ
                     ∙ ap (ids_left 0 ids) (sym mine) ∙ ap (λ (n : ℕ). ids_left n ids (chain_ids s t start)) (sym z);
               }
           at (refuses x) q k a =
-              let told : StandsFor (refuses x) r = rw q at a in
-              let e0 : chain_no s img t (length ids) start ≡ number_of told.0 = number ∙ ap outcome_no q ∙ sym told.1.1 in
-              let given : Number (number_of told.0) = rw (ap outcome_no q ∙ sym told.1.1) at k in
-              let zeros : after ≡ replicate (length ids) 0 = e ∙ cleared_refused r mid told.0 told.1.0 ∙ ap (λ (n : ℕ). replicate n 0) (lm ∙ l) in
+              let told : (f : Refusal) × (r ≡ Err f) × (number_of f ≡ x) = rw q at a in
+              let e0 : chain_no s img t (length ids) start ≡ number_of told.0 = number ∙ ap outcome_no q ∙ sym told.2 in
+              let given : Number (number_of told.0) = rw (ap outcome_no q ∙ sym told.2) at k in
+              let zeros : after ≡ replicate (length ids) 0 = e ∙ cleared_refused r mid told.0 told.1 ∙ ap (λ (n : ℕ). replicate n 0) (lm ∙ l) in
               let so : ChainListed s img t ids start (Err told.0) after = refused_so told.0 after e0 (zeros ∙ left_zero (number_of told.0) ids _ (number_not told.0) (not_eleven given)) in
-              rw told.1.0 so
+              rw told.1 so
