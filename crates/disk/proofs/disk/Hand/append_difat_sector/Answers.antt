@@ -4,10 +4,9 @@ use Rattle.disk.specs.Disk.{Disk, set_fat, store}
 use Rattle.disk.proofs.Growing.{one_link, difat_appended}
 use Rattle.disk.proofs.disk.Hand.append_difat_sector.Goals as goal
 
-pub link_difat-requires : goal.link_difat-requires
-link_difat-requires c =
-    let given = one_link _ _ _ _ c.requires.fits_one _ _ c.set_fat.ensures.disk (c.set_fat.ensures.same.image_long ∙ c.init_at.auto.image) in
-    rw c.set_fat.ensures.same.len (record { le_s = given.0; j_in_bounds = given.1 })
+pub link_difat-requires-clause-j_in_bounds : goal.link_difat-requires-clause-j_in_bounds
+link_difat-requires-clause-j_in_bounds c =
+    rw c.set_fat.ensures.same.len (one_link _ _ _ _ _ _ c.requires.fits_one c.set_fat.ensures.disk (c.set_fat.ensures.same.image_long ∙ c.init_at.auto.image))
 
 pub overflow_add-self : goal.overflow_add-self
 unfolding set_fat store
