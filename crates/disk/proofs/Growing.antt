@@ -113,7 +113,7 @@ unfolding append_fat store
 fat_appended S r d e image fat fats difats after made listed count =
     rw count (ap (λ (x : Disk). store x (offset_of fats_at) (digits 4 (d.sectors / per_sector S + 1))) (listed ∙ ap (λ (x : Disk). list_place S x (d.sectors / per_sector S) d.sectors) made))
 
--- its entry and its bytes
+-- the next sector for data, once the FAT has a place for it: its entry and its bytes
 module _ (S R : ℕ) (d e : Disk) (f : FitsNew S R d) (h : e ≡ ready S d) where
   pub new_entry : Entry S e.sectors e.fat e.fats (length e.image)
   new_entry =

@@ -14,4 +14,6 @@ overflow_add-self c =
     omega (arith, c.requires.fits_one.room, c.requires.fits_one.fits.few, ap (λ (d : Disk). d.sectors) c.set_fat.ensures.disk, ap (λ (d : Disk). d.sectors) c.link_difat.ensures.disk)
 
 pub returns : goal.returns
-returns c = search (rules, difat_appended _ _ _ _ _ _ _ c.init_at.ensures c.set_fat.ensures.disk (rw c.set_fat.ensures.same.len at c.link_difat.ensures.disk) c.put_number.ensures)
+returns c =
+    let linked = rw c.set_fat.ensures.same.len at c.link_difat.ensures.disk in
+    search (rules, difat_appended _ _ _ _ _ _ _ c.init_at.ensures c.set_fat.ensures.disk linked c.put_number.ensures)

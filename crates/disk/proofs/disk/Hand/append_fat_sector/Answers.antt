@@ -24,4 +24,7 @@ pub list_place-requires : goal.list_place-requires
 list_place-requires c = rw c.set_fat.ensures.same.len (fat_place _ _ _ c.requires (fat_marked_lem _ _ _ _ c.init_at.ensures c.set_fat.ensures.disk))
 
 pub returns : goal.returns
-returns c = search (rules, fat_appended _ _ _ _ _ _ _ _ _ (fat_marked_lem _ _ _ _ c.init_at.ensures c.set_fat.ensures.disk) (rw c.set_fat.ensures.same.len at c.list_place.ensures.disk) c.put_number.ensures)
+returns c =
+    let marked = fat_marked_lem _ _ _ _ c.init_at.ensures c.set_fat.ensures.disk in
+    let listed = rw c.set_fat.ensures.same.len at c.list_place.ensures.disk in
+    search (rules, fat_appended _ _ _ _ _ _ _ _ _ marked listed c.put_number.ensures)

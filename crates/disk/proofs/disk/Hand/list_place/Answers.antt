@@ -12,4 +12,6 @@ pub put_at-requires-clause-s_in_bounds : goal.put_at-requires-clause-s_in_bounds
 put_at-requires-clause-s_in_bounds c = rw c.hold_place.ensures.same.len (place_held _ _ _ _ _ c.if-p-lt109.false c.requires c.hold_place.ensures.disk)
 
 pub returns : goal.returns
-returns c = search (rules, place_far _ _ _ _ _ _ _ _ _ _ c.if-p-lt109.false c.hold_place.ensures.disk (rw c.hold_place.ensures.same.len at c.put_at.ensures))
+returns c =
+    let stored = rw c.hold_place.ensures.same.len at c.put_at.ensures in
+    search (rules, place_far _ _ _ _ _ _ _ _ _ _ c.if-p-lt109.false c.hold_place.ensures.disk stored)

@@ -22,4 +22,7 @@ pub overflow_cast-result : goal.overflow_cast-result
 overflow_cast-result c = omega (arith, ready_room _ _ _ c.requires, c.requires.fits.few, ap (λ (d : Disk). d.sectors) c.make_ready.ensures.disk)
 
 pub returns-clause-disk : goal.returns-clause-disk
-returns-clause-disk c = search (rules, new_made _ _ _ _ _ c.make_ready.ensures.disk (rw c.make_ready.ensures.same.len at c.set_fat.ensures.disk) (rw (c.set_fat.ensures.same.len, c.make_ready.ensures.same.len) at c.init_at.ensures))
+returns-clause-disk c =
+    let entry = rw c.make_ready.ensures.same.len at c.set_fat.ensures.disk in
+    let zeros = rw (c.set_fat.ensures.same.len, c.make_ready.ensures.same.len) at c.init_at.ensures in
+    search (rules, new_made _ _ _ _ _ c.make_ready.ensures.disk entry zeros)
