@@ -30,6 +30,12 @@ disk image fat fats difats n = record { image = image; fat = fat; fats = fats; d
 abbrev Entry : ℕ → ℕ → List ℕ → List ℕ → ℕ → Type 0
 Entry S i fat fats len = ((i < length fat) × (i / per_sector S < length fats)) × (start_of S (get_or fats (i / per_sector S) 0) + S ≤ len)
 
+-- an entry that is set, in the table and in the bytes
+pub entry_set : (S i v : ℕ) (d : Disk) (after : List ℕ) → after ≡ splice d.image (start_of S (get_or d.fats (i / per_sector S) 0) + 4 * (i % per_sector S)) (digits 4 v)
+    → disk after (set d.fat i v) d.fats d.difats d.sectors ≡ set_fat S d i v
+unfolding set_fat
+entry_set S i v d after e = rw e
+
 -- a DIFAT sector: the link to it, once its bytes and its entry are there
 pub one_link : (S R j : ℕ) (d e : Disk) (img : List ℕ) → FitsOne S R j d → e ≡ set_fat S (disk img d.fat d.fats d.difats d.sectors) d.sectors difat_sector
     → length e.image ≡ length d.image → (j ≤ length e.difats) × (0 < j → start_of S (get_or e.difats (j - 1) 0) + S ≤ length e.image)
