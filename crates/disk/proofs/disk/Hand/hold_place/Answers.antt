@@ -3,10 +3,8 @@ use Rattle.std.proofs.Common.{rules}
 use Rattle.disk.proofs.Growing.{hold_not, hold_one, hold_done}
 use Rattle.disk.proofs.disk.Hand.hold_place.Goals as goal
 
-pub append_difat_sector-requires : goal.append_difat_sector-requires
-append_difat_sector-requires c =
-    let given = hold_one _ _ _ _ _ c.requires.0 c.requires.1 c.needs_difat.ensures c.if-needs_difat.true in
-    record { fits_one = given.0; j_in_bounds = given.1 }
+pub append_difat_sector-requires-clause-fits_one : goal.append_difat_sector-requires-clause-fits_one
+append_difat_sector-requires-clause-fits_one c = hold_one _ _ _ _ _ c.requires.1 c.needs_difat.ensures c.if-needs_difat.true
 
 pub returns-then-needs_difat : goal.returns-then-needs_difat
 returns-then-needs_difat c = rw (hold_done _ _ _ _ c.needs_difat.ensures c.if-needs_difat.true) c.append_difat_sector.ensures

@@ -1,5 +1,5 @@
 -- Where there is no DIFAT sector the link is the header's field; else it is the last entry of the last one.
-use Rattle.std.proofs.Common.{rules, ne_eqb}
+use Rattle.std.proofs.Common.{rules}
 use Rattle.disk.specs.Disk.{store, link_place}
 use Rattle.disk.proofs.disk.Hand.link_difat.Goals as goal
 
