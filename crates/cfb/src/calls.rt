@@ -38,7 +38,7 @@ pub(crate) fn chain_of(
     ensures { ChainListed s image.now (tables_of tables.entry) ids.old start result ids.new }
 {
     let short = tables.shortest().min(ids.len());
-    if short < room_of(s.version(), image.len()) {
+    if short < room_of(s.header.version, image.len()) {
         return Err(Refusal::ShortTable);
     }
     let n = s.sectors;

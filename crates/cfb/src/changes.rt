@@ -1,5 +1,7 @@
 // What every change of a chain begins and ends with: the refusals before its first store, and the state after its last (document 01, "Calls on a chain").
 ghost use Rattle.std.specs.Prelude.{◌≡◌, ◌+◌, ◌*◌, ◌≤◌, eqb, length, get_or};
+ghost use Rattle.lists.specs.Lists.{either};
+ghost use Rattle.consts.specs.Refusals.{ends_with};
 ghost use Rattle.tables.specs.Tables.{tables_of};
 ghost use Rattle.fat.specs.Lists.{room_of};
 ghost use Rattle.moves.specs.Change.{seek_of, bytes_of};
@@ -19,7 +21,14 @@ use tables::Tables;
 fn is_marked(marks: &[u8], start: u32) -> bool
     ensures { result ≡ eqb (get_or marks.now start 0) 1 }
 {
-    marks.get(start as usize) == Some(&1)
+    marks.get(start as usize).copied().unwrap_or(0) == 1
+}
+
+// Whether an answer is a refusal that comes before 26: 11 and 19 do, 20 to 22 come behind it.
+fn comes_first(listed: Result<usize, Refusal>) -> bool
+    ensures { result ≡ either (eqb (ends_with listed) 11) (eqb (ends_with listed) 19) }
+{
+    matches!(listed, Err(Refusal::ShortTable | Refusal::Disagrees))
 }
 
 // Lists the chain from start for a change: 11 leaves the id list as it was; 19, 26, 20, 21, 22 and 25, in this order, leave it zero; else it holds the ids and then zeros.
@@ -33,8 +42,7 @@ pub(crate) fn change_of(
     ensures { ChangeListed s image.now (tables_of tables.entry) ids.old start result ids.new }
 {
     let listed = chain_of(s, image, tables, ids, start);
-    // 11 and 19 come before 26, and 20 to 22 behind it.
-    if matches!(listed, Err(Refusal::ShortTable | Refusal::Disagrees)) {
+    if comes_first(listed) {
         return listed;
     }
     if !s.mode.is_strict() {
