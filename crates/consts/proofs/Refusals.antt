@@ -4,8 +4,9 @@ use mathlib.Core.Path.{◌≡◌, refl, sym, ◌∙◌, ap}
 use mathlib.Core.List.{[], ◌∷◌}
 use native.Mathlib.Omega.{arith}
 use lib.ListN.{get_or}
-use Rattle.std.specs.Prelude.{Result, Ok, Err}
-use Rattle.consts.specs.Refusals.{number_of, ends_with}
+use Rattle.std.specs.Prelude.{Result, Ok, Err, IfOk}
+use Rattle.std.proofs.lemmas.Result.{IfOk-at_ok}
+use Rattle.consts.specs.Refusals.{number_of, ends_with, Ends}
 use Rattle.consts.specs.declared.refusal.Refusal.{Refusal}
 use Rattle.consts.specs.declared.refusal.Refusal.TheVariants.{TooShort, Signature, ByteOrder, Version, SectorShift, MiniSectorShift, DirSectors, Cutoff, HeaderList, WholeSectors, ShortTable, FatLists, FatTail, Unmarked, PastEnd, PointedTwice, InvalidEntry, FreePointee, Disagrees, BadStart, BrokenChain, Loop, Offset, NoRoom, MidChain, PermissiveChange}
 
@@ -86,3 +87,27 @@ ends_apart (Ok x) (Ok y) same = refl
 ends_apart (Ok x) (Err f) same = absurd (number_not f (sym same))
 ends_apart (Err e) (Ok y) same = absurd (number_not e same)
 ends_apart (Err e) (Err f) same = ap Err (number_apart e f same)
+
+-- two answers with one number are one, where what they accept with is told
+pub answers_apart : {A : Type 0} (r s : Result A Refusal) (x : A) → ends_with r ≡ ends_with s → IfOk r (λ y. y ≡ x) → IfOk s (λ y. y ≡ x) → r ≡ s
+answers_apart (Ok y) (Ok z) x same p q = ap Ok (p ∙ sym q)
+answers_apart (Ok y) (Err f) x same p q = absurd (number_not f (sym same))
+answers_apart (Err e) (Ok z) x same p q = absurd (number_not e same)
+answers_apart (Err e) (Err f) x same p q = ap Err (number_apart e f same)
+
+-- an answer that ends with k: a refusal has that number, and what is accepted is what the answer carries
+module _ {A : Type 0} {k : ℕ} {v : A} where
+  pub refusal_ends : (e : Refusal) → number_of e ≡ k → Ends k v (Err e)
+  refusal_ends e n = record { number = n; value = tt }
+
+  pub value_ends : (x : A) → k ≡ 0 → x ≡ v → Ends k v (Ok x)
+  value_ends x z e = record { number = sym z; value = e }
+
+  pub ends_refused : {r : Result A Refusal} → Ends k v r → (e : Refusal) → r ≡ Err e → (k ≡ 0 → ⊥) × (number_of e ≡ k)
+  ends_refused a e q = let n : number_of e ≡ k = sym (ap ends_with q) ∙ a.number in (λ z. number_not e (n ∙ z), n)
+
+  pub ends_accepted : {r : Result A Refusal} → Ends k v r → (x : A) → r ≡ Ok x → (k ≡ 0) × (x ≡ v)
+  ends_accepted a x q = (sym (sym (ap ends_with q) ∙ a.number), IfOk-at_ok (λ y. y ≡ v) q a.value)
+
+  pub ends_same : {r : Result A Refusal} {l : ℕ} → k ≡ l → Ends k v r → Ends l v r
+  ends_same e a = record { number = a.number ∙ e; value = a.value }
