@@ -98,6 +98,7 @@ pub fn load_fat(image: &[u8], s: usize, n: usize, fats: &[u32], fat: &mut [u32])
 {
     let each = s / 4;
     for (p, id) in fats.iter().enumerate() {
+        // kept: the bounds of a run, as no proof knows what is in the runs that chunks_mut lends.
         let a = p * each;
         let b = (a + each).min(fat.len());
         sectors::load_at(image, s, *id as usize, &mut fat[a..b]);

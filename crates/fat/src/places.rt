@@ -28,9 +28,14 @@ pub fn places_stand(list: &[u32], scratch: &[u32]) -> bool
     requires { all_below (length scratch.now) list.now ≡ true }
     ensures { result ≡ every (length list.now) (λ j. eqb (get_or scratch.now (get_or list.now j 0) 0) j) }
 {
-    list.iter().enumerate().fold(true, |stand, (j, id)| {
-        stand & (scratch[*id as usize] as usize == j)
-    })
+    // kept: a flag, as a fold over the places and their numbers is slower (`different` by a quarter).
+    let mut stand = true;
+    for (j, id) in list.iter().enumerate() {
+        if scratch[*id as usize] as usize != j {
+            stand = false;
+        }
+    }
+    stand
 }
 
 // Whether no number stands twice in the list. The scratch may hold anything before; what it holds after is not said.

@@ -8,12 +8,7 @@ ghost use Rattle.judge.specs.Judged.{Judged, JudgedOne, Listed};
 use consts::refusal::Refusal;
 
 // Judges sector i by the marks that the sectors below it made: refused with 15, 16 or 17, or else its entry is forgiven, and the sector that it points at is marked.
-pub fn judge_one(
-    strict: bool,
-    i: usize,
-    fat: &mut [u32],
-    marks: &mut [u8],
-) -> Result<(), Refusal>
+pub fn judge_one(strict: bool, i: usize, fat: &mut [u32], marks: &mut [u8]) -> Result<(), Refusal>
     requires i_in_bounds { i < length fat.old }
     requires marks_len { length marks.old ≡ length fat.old }
     ensures { JudgedOne strict i fat.old marks.old (ends_with result) fat.new marks.new }

@@ -7,7 +7,7 @@ use native.Mathlib.Omega.{arith}
 use lib.ListN.{length, get_or}
 use denote.Param.Members.{Mut, Called}
 use Rattle.std.specs.Prelude.{Option}
-use Rattle.std.specs.List.{list_all, enumerate_from, range_with_len, zip}
+use Rattle.std.specs.List.{list_all, range_with_len, zip}
 use Rattle.std.specs.Iterator.{FoldsItems}
 use Rattle.std.proofs.lemmas.Fn.{fold_same}
 use Rattle.std.proofs.lemmas.List.Folds.{list_all-append, list_all-map}
@@ -29,9 +29,9 @@ passed_more test xs x = at (list_all test xs) (test x) ∙ sym (list_all-append 
     at false b = refl
 
 -- so the fold says whether every item of the chain passes
-pub folded : {S A B F : Type 0} (steps : S → Option A → S → Type 0) (v : A → B) (g : Mut F (Bool × (A × Unit {0})) Bool) (test : B → Bool) (f : F) (s : S) (all : List B) (r : Bool)
+pub folded : {S A B F : Type 0} {steps : S → Option A → S → Type 0} {v : A → B} {g : Mut F (Bool × (A × Unit {0})) Bool} {f : F} {s : S} {all : List B} {r : Bool} (test : B → Bool)
     → Turns v g test f → YieldsList steps v s all → FoldsItems steps g s f true r → r ≡ list_all test all
-folded steps v g test f s all r turns yields ran =
+folded {v = v} {g = g} {f = f} {r = r} test turns yields ran =
     fold_same g (λ xs b. b ≡ list_all (λ x. test (v x)) xs) f
     (λ xs a x b f' j k. let t = turns a x b f' k in (t.0 ∙ ap (λ (c : Bool). c && test (v x)) j ∙ passed_more (λ x. test (v x)) xs x, t.1))
     ran.0 true r ran.1 refl ran.3
@@ -52,22 +52,11 @@ every_front (suc n) f = ap (both (f (suc n))) (every_front n f) ∙ swapped (f (
 further : (k i : ℕ) → k + 1 + i ≡ k + suc i
 further k i = omega arith
 
--- a test of each item of a list, of its places with the items, of the items of two, and of a range
+-- a test of each item of a list, of the items of two, and of a range
 pub all_listed : (test : ℕ → Bool) (xs : List ℕ) → list_all test xs ≡ every (length xs) (λ i. test (get_or xs i 0))
 unfolding every
 all_listed test [] = refl
 all_listed test (x ∷ xs) = and_both (test x) (list_all test xs) ∙ ap (both (test x)) (all_listed test xs) ∙ sym (every_front (length xs) (λ i. test (get_or (x ∷ xs) i 0)))
-
-pub all_placed : (test : ℕ × ℕ → Bool) (k : ℕ) (xs : List ℕ) → list_all test (enumerate_from k xs) ≡ every (length xs) (λ i. test (k + i, get_or xs i 0))
-unfolding every
-all_placed test k [] = refl
-all_placed test k (x ∷ xs) =
-    let here : k ≡ k + 0 = omega arith in
-    and_both (test (k, x)) (list_all test (enumerate_from (k + 1) xs))
-    ∙ ap (both (test (k, x)))
-    (all_placed test (k + 1) xs ∙ every_ext (length xs) _ _ (λ i l. ap (λ (p : ℕ). test (p, get_or xs i 0)) (further k i)))
-    ∙ ap (λ (p : ℕ). both (test (p, x)) (every (length xs) (λ i. test (k + suc i, get_or xs i 0)))) here
-    ∙ sym (every_front (length xs) (λ i. test (k + i, get_or (x ∷ xs) i 0)))
 
 pub all_paired : (test : ℕ × ℕ → Bool) (xs ys : List ℕ) → length xs ≡ length ys → list_all test (zip xs ys) ≡ every (length xs) (λ i. test (get_or xs i 0, get_or ys i 0))
 unfolding every

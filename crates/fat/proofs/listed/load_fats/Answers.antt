@@ -19,7 +19,7 @@ pub returns-then-rest_free : goal.returns-then-rest_free
 returns-then-rest_free c =
     elim c.if-list_fats.branch [
       | then-list_fats w ↦ let same = ap (λ (k : ℕ). rest_free c.args.s c.args.image.now c.args.list.now c.args.difats.now k (length c.args.difats.now)) c.list_fats.auto.fats in
-      fats_load _ _ _ _ _ _ _ _ _ c.list_fats.ensures w.if-list_fats.true (sym (w.rest_free.ensures ∙ same) ∙ sym w.value-is ∙ c.if-rest_free.true) c.different.ensures
+          fats_load _ _ _ _ _ _ _ _ _ c.list_fats.ensures w.if-list_fats.true (sym (w.rest_free.ensures ∙ same) ∙ sym w.value-is ∙ c.if-rest_free.true) c.different.ensures
       | else-list_fats w ↦ absurd (not_both c.if-rest_free.true (w.value-is ∙ w.if-list_fats.false))
     ]
 
@@ -27,6 +27,6 @@ pub returns-else-rest_free : goal.returns-else-rest_free
 returns-else-rest_free c =
     elim c.if-list_fats.branch [
       | then-list_fats w ↦ let same = ap (λ (k : ℕ). rest_free c.args.s c.args.image.now c.args.list.now c.args.difats.now k (length c.args.difats.now)) c.list_fats.auto.fats in
-      fats_more _ _ _ _ _ _ _ _ (w.value-is ∙ w.rest_free.ensures ∙ same) c.if-rest_free.false
+          fats_more _ _ _ _ _ _ _ _ (w.value-is ∙ w.rest_free.ensures ∙ same) c.if-rest_free.false
       | else-list_fats w ↦ rw w.value-is (fats_not _ _ _ _ _ _ _ _ c.list_fats.ensures w.if-list_fats.false)
     ]

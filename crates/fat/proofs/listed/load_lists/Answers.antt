@@ -25,7 +25,7 @@ pub returns-then-load_difats : goal.returns-then-load_difats
 returns-then-load_difats c =
     elim c.if-counts_right.branch [
       | then-counts_right w ↦ lists_load _ _ _ _ _ _ c.requires.counted.fats c.requires.counted.difats _ _ _ _
-      (sym c.counts_right.ensures ∙ w.if-counts_right.true) (rw (sym w.difats-is) at w.load_difats.ensures) (sym w.value-is ∙ c.if-load_difats.true) c.load_fats.ensures
+          (sym c.counts_right.ensures ∙ w.if-counts_right.true) (rw (sym w.difats-is) at w.load_difats.ensures) (sym w.value-is ∙ c.if-load_difats.true) c.load_fats.ensures
       | else-counts_right w ↦ absurd (not_both c.if-load_difats.true (w.value-is ∙ w.if-counts_right.false))
     ]
 

@@ -1,25 +1,29 @@
--- The fold looks up what is stored at each number of the list, and and-s the tests that it is the number's place.
-use Prim.Native.Nat.{ℕ}
-use mathlib.Core.Path.{◌∙◌, ap}
-use native.Mathlib.Nat.{zero-add}
-use lib.Dec.{eqb}
-use lib.ListN.{length, get_or}
-use borrow.Author.Rules.{rules}
-use Rattle.std.proofs.iter.Serving.{serving}
-use Rattle.std.proofs.lemmas.Iterator.{YieldsList-from_slice}
-use Rattle.std.proofs.lemmas.Iterator.Consumers.{YieldsList-from_enumerate}
-use Rattle.lists.proofs.Folds.{folded, all_placed}
-use Rattle.lists.proofs.Cases.{every_ext}
-use Rattle.fat.proofs.Differing.{below_left, stands_at}
+use mathlib.Core.Path.{◌≡◌, refl}
+use native.Mathlib.Omega.{arith}
+use borrow.Author.Tests.{eq-eqb, ne_eqb}
+use lib.ListN.{length}
+use Rattle.lists.specs.Lists.{every}
+use Rattle.lists.proofs.Cases.{every_yes, every_no}
+use Rattle.fat.proofs.Differing.{below_at, stands_at}
 use Rattle.fat.proofs.places.places_stand.Goals as goal
+use Rattle.fat.proofs.places.places_stand.Goals.{then-scratch-id, else-scratch-id}
 
-pub fold-requires-clause-callable : goal.fold-requires-clause-callable
-fold-requires-clause-callable c = grind (serving, below_left _ _ c.enumerate.result.iter.rest.now (search rules) c.requires)
+pub loop-j-init : goal.loop-j-init
+unfolding every
+loop-j-init c = refl
+
+pub bounds-scratch-id : goal.bounds-scratch-id
+bounds-scratch-id c = below_at _ _ c.requires _ c.loop-j-test.true
+
+pub loop-j-preserved : goal.loop-j-preserved
+loop-j-preserved c =
+    let stands = stands_at c.args.list.now c.args.scratch.now in
+    elim c.if-scratch-id.branch [
+      | then-scratch-id w ↦ every_no stands c.loop-j.j _ (ne_eqb _ _ w.if-scratch-id.true) w.stand-is
+      | else-scratch-id w ↦ every_yes stands c.loop-j.j _ _ (eq-eqb _ _ w.if-scratch-id.false) c.loop-j.invariant w.stand-is
+    ]
 
 pub returns : goal.returns
-returns c = let scratch = c.args.scratch.now in
-    let list = c.args.list.now in
-    folded _ (λ p. (p.0, p.1.now)) _ (λ p. eqb (get_or scratch p.1 0) p.0) _ _ _ _ (λ flag x next f k. search rules)
-    (YieldsList-from_enumerate (YieldsList-from_slice list (search rules)) (search rules)) c.fold.ensures.ran
-    ∙ all_placed _ 0 list
-    ∙ every_ext (length list) _ (stands_at list scratch) (λ j h. ap (λ (k : ℕ). eqb (get_or scratch (get_or list j 0) 0) k) (zero-add j))
+returns c = let l = c.loop-j in
+    let e : l.j ≡ length c.args.list.now = omega arith in
+    rw e at l.invariant

@@ -11,7 +11,7 @@ use Rattle.judge.proofs.entries.none_dangles.Goals as goal
 
 pub returns : goal.returns
 returns c =
-    folded _ _ _ (λ p. not (eqb p.0 free_sector) || not (eqb p.1 1)) _ _ _ _ (λ flag x next f k. search rules)
+    folded (λ p. not (eqb p.0 free_sector) || not (eqb p.1 1)) (λ flag x next f k. search rules)
     (YieldsList-from_zip (YieldsList-from_slice c.args.fat.now (search rules)) (YieldsList-from_slice c.args.marks.now (search rules))) c.fold.ensures.ran
     ∙ all_paired _ c.args.fat.now c.args.marks.now (sym (length_marks _ _ _ c.requires))
     ∙ sound_tests _ _ _ c.requires

@@ -16,6 +16,5 @@ fold-requires-clause-callable c = grind (serving, below_left _ _ c.iter.result.r
 pub returns : goal.returns
 unfolding all_marked
 returns c =
-    let a = c.args in
-    folded _ _ _ (λ x. eqb (get_or a.fat.now x 0) a.v) _ _ a.ids.now _ (λ flag x next f k. search rules) (YieldsList-from_slice _ c.iter.ensures.rest) c.fold.ensures.ran
+    folded (λ x. eqb (get_or c.args.fat.now x 0) c.args.v) (λ flag x next f k. search rules) (YieldsList-from_slice c.args.ids.now c.iter.ensures.rest) c.fold.ensures.ran
     ∙ all_listed _ _
