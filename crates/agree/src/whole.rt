@@ -8,7 +8,7 @@ ghost use Rattle.alloc.specs.Opening.{open_tables, table_rows};
 ghost use Rattle.agree.specs.Agree.{agreement, tables_held};
 ghost use Rattle.agree.specs.Parts.{WholeLent, tails_zero};
 
-use crate::alike::{same_header, zero_bytes_from, zeros_from};
+use crate::alike::zeros_from;
 use crate::tables::same_tables;
 use alloc::early::judge_early;
 use alloc::open::shortest;
@@ -32,7 +32,7 @@ fn tails_zero(
     ensures { result ≡ tails_zero n k d free (record { fat = fat.now; fats = fats.now; difats = difats.now; frees = frees.now; marks = marks.now }) }
 {
     let lists = zeros_from(fats, k)
-        & (zeros_from(difats, d) & (zeros_from(frees, free) & zero_bytes_from(marks, n)));
+        & (zeros_from(difats, d) & (zeros_from(frees, free) & zeros_from(marks, n)));
     zeros_from(fat, n) & lists
 }
 
@@ -100,7 +100,7 @@ pub fn agrees(
         return false;
     }
     let own = early.header;
-    if !same_header(h, own) {
+    if h != own {
         return false;
     }
     let s = early.len;

@@ -17,7 +17,7 @@ use fields::signed;
 use judge::{counts_dirs, judge, judged_by};
 
 // The format's two versions (MS-CFB 2.2, Major Version).
-#[derive(Clone, Copy)]
+#[derive(Clone, Copy, Debug, PartialEq, Eq)]
 pub enum Version {
     // Sectors of 512 bytes.
     V3,
@@ -95,7 +95,7 @@ impl Validation {
 }
 
 // A header's content. Each field has one word; the Rust's name for it stands beside it.
-#[derive(Clone, Copy)]
+#[derive(Clone, Copy, Debug, PartialEq, Eq)]
 pub struct Header {
     // version
     pub version: Version,

@@ -1,7 +1,7 @@
--- The laws of tests that go through a list number by number: flags that are kept, lists compared with a table, FREE entries counted. Assumes nothing.
+-- The laws of tests that go through a list number by number: lists compared with a table, FREE entries counted. Assumes nothing.
 use Prim.Native.Nat.{ℕ, zero, suc, ◌+◌, ◌≤◌}
 use mathlib.Core.Path.{◌≡◌, refl, sym, ◌∙◌, ap}
-use mathlib.Core.Bool.{Bool, true, false, ◌&&◌}
+use mathlib.Core.Bool.{true}
 use mathlib.Core.List.{List}
 use mathlib.Core.Logic.{⊎_elim, ◌≢◌}
 use native.Mathlib.Omega.{arith}
@@ -13,24 +13,13 @@ use lib.ListN.{length, get_or, take, length-append}
 use lib.Seq.{take_all}
 use Rattle.std.specs.List.{count_by}
 use Rattle.std.proofs.lemmas.List.Sums.{count_by_more_yes, count_by_more_no}
-use Rattle.lists.specs.Lists.{both, every, tab, same_list}
+use Rattle.lists.specs.Lists.{every, tab, same_list}
 use Rattle.lists.proofs.Cases.{same_or, same_test, every_at, every_of}
 use Rattle.lists.proofs.Tab.{get_or_tab, is_tab}
 use Rattle.lists.proofs.Splice.{same_list_true, same_list_refl}
 use Rattle.consts.specs.Consts.{free_sector}
 use Rattle.judge.specs.Judge.{frees_of, frees_from}
 use Rattle.judge.proofs.Judging.{frees_end_yes, frees_end_no}
-
--- a loop that tests each number in turn and keeps what it finds: a turn
-pub flag_more : (f : ℕ → Bool) (j : ℕ) (flag t : Bool) → flag ≡ every j f → t ≡ f j → (flag && t) ≡ every (j + 1) f
-unfolding every
-flag_more f j flag t e h = rw (add-one j, e, h) (swapped (every j f) (f j))
-  where
-    swapped : (a b : Bool) → (a && b) ≡ both b a
-    swapped true true = refl
-    swapped true false = refl
-    swapped false true = refl
-    swapped false false = refl
 
 -- two equal lists pass the test, and the test of a list and a table goes element by element
 pub same_of : (a b : List ℕ) → a ≡ b → same_list a b ≡ true
