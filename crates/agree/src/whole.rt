@@ -9,7 +9,7 @@ ghost use Rattle.alloc.specs.Opening.{open_tables, table_rows};
 ghost use Rattle.agree.specs.Agree.{agreement, tables_held};
 ghost use Rattle.agree.specs.Parts.{WholeLent, tails_zero};
 
-use crate::alike::{same_header, zero_bytes_from, zeros_from};
+use crate::alike::zeros_from;
 use crate::tables::same_tables;
 use alloc::early::{Early, judge_early};
 use alloc::open::Found;
@@ -24,7 +24,7 @@ fn tails_zero(n: usize, k: usize, d: usize, free: usize, tables: Tables<'_>) -> 
     ensures { result ≡ tails_zero n k d free (tables_of tables.entry) }
 {
     let lists = zeros_from(tables.fats, k)
-        & (zeros_from(tables.difats, d) & (zeros_from(tables.frees, free) & zero_bytes_from(tables.marks, n)));
+        & (zeros_from(tables.difats, d) & (zeros_from(tables.frees, free) & zeros_from(tables.marks, n)));
     zeros_from(tables.fat, n) & lists
 }
 
@@ -71,7 +71,7 @@ pub fn agrees(
     let Ok(early) = judge_early(image, used, mode, tables.shortest()) else {
         return false;
     };
-    if !same_header(found.header, early.header) {
+    if found.header != early.header {
         return false;
     }
     if found.sectors != early.sectors {

@@ -8,7 +8,6 @@ ghost use Rattle.cfb.specs.Calls.{told_by};
 ghost use Rattle.records.specs.Records.{numbers_in};
 ghost use Rattle.openings.specs.Openings.{place_in, entries_in, sector_bytes, tables_in, CountedAs, ToldAs, Says, OpenedAs, ImageAgrees};
 
-use agree::alike::same_numbers;
 use cfb::{Answer, State};
 use records::{length_in, mode_in, number_in, take_numbers};
 
@@ -43,7 +42,7 @@ fn same_table(table: &[u32], held: &[u8]) -> bool
 {
     let mut numbers = [0u32; 24];
     take_numbers(held, &mut numbers);
-    same_numbers(table, &numbers)
+    table == numbers.as_slice()
 }
 
 // Whether the tables are those of the record.

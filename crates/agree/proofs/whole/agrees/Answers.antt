@@ -11,9 +11,10 @@ use Rattle.alloc.specs.Early.{early_of}
 use Rattle.alloc.specs.Opening.{first_rows, shortest}
 use Rattle.alloc.specs.declared.early.Early.{Early}
 use Rattle.agree.specs.Agree.{same_header}
+use Rattle.agree.proofs.Comparing.{headers_differ, headers_same}
 use Rattle.agree.proofs.Agreeing.{agree_early, agree_header, agree_count, agree_free, agree_told, agree_lent}
 use Rattle.agree.proofs.whole.agrees.Goals as goal
-use Rattle.agree.proofs.whole.agrees.Goals.{After-judge_early, Else-not-same_header, In-Ok}
+use Rattle.agree.proofs.whole.agrees.Goals.{After-judge_early, Else-ne, In-Ok}
 
 abbrev tables : After-judge_early → Tables
 tables c = tables_of c.args.tables
@@ -30,19 +31,19 @@ known : (c : In-Ok) → c.in-Ok.early ≡ early_of c.args.image.now c.args.used
 known c = IfOk-at_ok _ c.in-Ok.is c.judge_early.ensures.early
 
 -- the header that was handed in is the one that was read
-own_header : (c : Else-not-same_header) → same_header c.args.found.header c.in-Ok.early.header ≡ true
-own_header c = sym c.same_header.ensures ∙ c.if-not-same_header.false
+own_header : (c : Else-ne) → same_header c.args.found.header c.in-Ok.early.header ≡ true
+own_header c = headers_same _ _ _ c.ne.ensures c.if-ne.false
 
 pub returns-in_default : goal.returns-in_default
 returns-in_default c =
     let at = goal.at.returns-in_default c in
     agree_early _ _ _ _ _ _ (tables at.After-judge_early) (λ z. number_not c.in_default.field-0 (sym (ap ends_with c.in_default.is) ∙ first at.After-judge_early ∙ z))
 
-pub returns-then-not-same_header : goal.returns-then-not-same_header
+pub returns-then-ne : goal.returns-then-ne
 unfolding early_of
-returns-then-not-same_header c =
-    let at = goal.at.returns-then-not-same_header c in
-    agree_header _ _ _ _ _ _ (tables at.After-judge_early) _ (ap (λ (e : Early). e.header) (known at.In-Ok)) (sym c.same_header.ensures ∙ c.if-not-same_header.true)
+returns-then-ne c =
+    let at = goal.at.returns-then-ne c in
+    agree_header _ _ _ _ _ _ (tables at.After-judge_early) _ (ap (λ (e : Early). e.header) (known at.In-Ok)) (headers_differ _ _ _ c.ne.ensures c.if-ne.true)
 
 pub returns-then-found-early : goal.returns-then-found-early
 unfolding early_of
@@ -63,7 +64,7 @@ same_whole-requires c =
     let is = known at.In-Ok in
     let few = rw c.if-found-early.false at c.if-found.false in
     agree_lent _ _ _ c.args.found.sectors _ _ (tables at.After-judge_early) (passed at.In-Ok _ (first at.After-judge_early)) _ _ _ _ (ap (λ (e : Early). e.len) is) (ap (λ (e : Early). e.sectors) is) (ap (λ (e : Early). e.header) is)
-    (own_header at.Else-not-same_header) few c.requires
+    (own_header at.Else-ne) few c.requires
 
 pub returns : goal.returns
 unfolding early_of
@@ -71,4 +72,4 @@ returns c =
     let at = goal.at.returns c in
     let is = known at.In-Ok in
     agree_told _ _ _ _ _ _ (tables at.After-judge_early) (passed at.In-Ok _ (first at.After-judge_early)) _ _ _ _ _ c.is_strict.ensures (ap (λ (e : Early). e.len) is) (ap (λ (e : Early). e.sectors) is) (ap (λ (e : Early). e.header) is)
-    (own_header at.Else-not-same_header) c.if-found-early.false c.same_whole.ensures
+    (own_header at.Else-ne) c.if-found-early.false c.same_whole.ensures
