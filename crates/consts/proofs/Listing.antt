@@ -24,6 +24,21 @@ pub gather_apart : (s : Sector) (x : ℕ) (xs : List ℕ) → joins s x ≡ fals
 unfolding gather
 gather_apart s x xs f = rw f
 
+-- an item stands for one entry at least
+gather_few : (s : Sector) (xs : List ℕ) → length (gather s xs) ≤ 1 + length xs
+unfolding gather
+gather_few s [] = omega arith
+gather_few s (x ∷ xs) =
+    ⊎_elim
+    (λ (j : joins s x ≡ true). rw (gather_joined s x xs j) (omega (arith, gather_few (grown s) xs)))
+    (λ (f : joins s x ≡ false). rw (gather_apart s x xs f) (omega (arith, gather_few (begun x) xs)))
+    (true_or (joins s x))
+
+pub items_few : (xs : List ℕ) → length (prettify_of xs) ≤ length xs
+unfolding prettify_of
+items_few [] = omega arith
+items_few (x ∷ xs) = omega (arith, gather_few (begun x) xs)
+
 -- what an open item is closed as: the first item, with the list of what follows it
 record Closed (p : ℕ) (s : Sector) (xs : List ℕ) (f : Found) : Type 0 where
   low : p ≤ f.past

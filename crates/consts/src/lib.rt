@@ -88,6 +88,7 @@ pub enum Kind {
 }
 
 // The kind of an entry: every u32 has one.
+#[tactic(auto, unfolding(crate::specs::Kinds::kind_of))]
 pub fn kind_of(entry: u32) -> Kind
     ensures { result ≡ kind_of entry }
 {

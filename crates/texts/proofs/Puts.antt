@@ -36,12 +36,9 @@ put_word b at {word} fits e =
     record { place = refl; kept = rw e (ap length back ∙ length_splice b at word fits); buffer = rw e back }
 
 -- nothing is put
-pub pushed_none : (o : Out) → Pushed o [] o
-pushed_none o = record { same = refl; put = record { place = sym (add-zero o.len); kept = refl; buffer = sym (splice_nil o.buf.now o.len) } }
+pub pushed_none : (o : Out) → o.len ≤ length o.buf.now → Pushed o [] o
+pushed_none o h = record { same = refl; put = record { place = sym (add-zero o.len); kept = refl; buffer = sym (splice_nil o.buf.now o.len) }; within = h }
 
--- a text past another, and the room that the first leaves
-pub pushed_after : {o m n : Out} {xs ys : List ℕ} → Pushed o xs m → Pushed m ys n → o.len + (length xs + length ys) ≤ length o.buf.now → Pushed o (xs ++ ys) n
-pushed_after p q fits = record { same = q.same ∙ p.same; put = put_after p.put q.put fits }
-
-pub pushed_room : {o m : Out} {xs : List ℕ} (k : ℕ) → Pushed o xs m → o.len + (length xs + k) ≤ length o.buf.now → m.len + k ≤ length m.buf.now
-pushed_room k p fits = omega (arith, p.put.place, p.put.kept, fits)
+-- a text past another
+pub pushed_after : {o m n : Out} {xs ys : List ℕ} → Pushed o xs m → Pushed m ys n → Pushed o (xs ++ ys) n
+pushed_after p q = record { same = q.same ∙ p.same; put = put_after p.put q.put (omega (arith, p.put.place, p.put.kept, q.put.place, q.put.kept, q.within)); within = q.within }

@@ -61,6 +61,7 @@ impl<'a> Out<'a> {
     }
 
     // Puts a count and its word: a count of one is the word alone.
+    #[tactic(auto, using(crate::proofs::Decimal::decimal_of_usize))]
     fn push_count(&mut self, n: usize, word: &[u8])
         requires { self.old.len + 21 + length word.now ≤ length self.old.buf.now }
         ensures put { Pushed self.old (count_of n word.now) self.new }
@@ -74,6 +75,7 @@ impl<'a> Out<'a> {
     }
 
     // Puts a range: a range of one number is that number.
+    #[tactic(auto, using(crate::proofs::Decimal::decimal_of_u32, crate::proofs::Texts::range_same))]
     fn push_range(&mut self, first: u32, last: u32)
         requires { self.old.len + 23 ≤ length self.old.buf.now }
         ensures put { Pushed self.old (range_of first last) self.new }

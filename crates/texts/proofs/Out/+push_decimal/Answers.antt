@@ -2,7 +2,7 @@
 use Rattle.std.proofs.Common.{ℕ, arith}
 use Rattle.texts.specs.Text.{Pushed}
 use Rattle.texts.proofs.Decimal.{decimal_length_more, front_of, front_one, front_more, decimal_front, front_length}
-use Rattle.texts.proofs.Puts.{pushed_none, pushed_after, pushed_room}
+use Rattle.texts.proofs.Puts.{pushed_none, pushed_after}
 use Rattle.texts.proofs.Out.+push_decimal.Goals as goal
 use Rattle.texts.proofs.Out.+push_decimal.Goals.{Joined-n-ge10, then-n-ge10, else-n-ge10}
 
@@ -14,15 +14,15 @@ fronted : (t : ℕ) (c : Joined-n-ge10 t) → Pushed c.args.self.now (front_of c
 fronted t c =
     elim c.if-n-ge10.branch [
       | then-n-ge10 w ↦ rw (w.self-is, ← front_more c.args.n w.if-n-ge10.true) w.push_decimal.ensures
-      | else-n-ge10 w ↦ rw (w.self-is, ← front_one c.args.n w.if-n-ge10.false) (pushed_none c.args.self.now)
+      | else-n-ge10 w ↦ rw (w.self-is, ← front_one c.args.n w.if-n-ge10.false) (pushed_none c.args.self.now (omega (arith, c.requires)))
     ]
 
 pub push-requires : goal.push-requires
 push-requires t c =
     let passed = goal.at.push-requires t c in
-    pushed_room 1 (fronted t passed.Joined-n-ge10) (omega (arith, c.requires, front_length c.args.n))
+    omega (arith, c.requires, front_length c.args.n, (fronted t passed.Joined-n-ge10).put)
 
 pub returns : goal.returns
 returns t c =
     let passed = goal.at.returns t c in
-    rw (← decimal_front c.args.n) (pushed_after (fronted t passed.Joined-n-ge10) c.push.ensures (omega (arith, c.requires, front_length c.args.n)))
+    rw (← decimal_front c.args.n) (pushed_after (fronted t passed.Joined-n-ge10) c.push.ensures)
