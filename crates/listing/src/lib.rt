@@ -1,14 +1,15 @@
 // The listing of an image: its opening, taken apart, and the text of either answer.
 #![tactic(auto)]
 
-ghost use Rattle.std.specs.Prelude.{◌≤◌, length};
-ghost use Rattle.texts.specs.Text.{Put};
+ghost use Rattle.std.specs.Prelude.{◌+◌, ◌≤◌, length};
+ghost use Rattle.texts.specs.Text.{Put, Pushed};
 ghost use Rattle.listing.specs.Listing.{listing};
 ghost use Rattle.listing.specs.Verdict.{FatOpened};
 
 use cfb::{State, Verdict};
 use header::Validation;
 use lines::{put_listed, put_refused};
+use texts::Out;
 
 // The longest image that is listed.
 const MOST: usize = 65536;
@@ -35,17 +36,29 @@ fn open_fat(image: &[u8], fat: &mut [u32; 128]) -> Verdict
     opened.verdict
 }
 
-// Puts the listing of any bytes at the front of `out`, and gives its length; what lies past it stays.
-pub fn list_text(image: &[u8], out: &mut [u8; 4096]) -> usize
-    ensures { Put out.old 0 (listing image.now) result out.new }
+// Puts the listing of any bytes.
+fn put_listing(out: &mut Out, image: &[u8])
+    requires { out.old.len + 4096 ≤ length out.old.buf.now }
+    ensures { Pushed out.old (listing image.now) out.new }
 {
     if MOST < image.len() {
-        return put_refused(out, 1);
+        put_refused(out, 1);
+        return;
     }
     let mut fat = [0u32; 128];
     let verdict = open_fat(image, &mut fat);
     let Verdict::Accepted { sectors, free } = verdict else {
-        return put_refused(out, verdict.number());
+        put_refused(out, verdict.number());
+        return;
     };
-    put_listed(out, sectors, free, &fat[..sectors])
+    put_listed(out, sectors, free, &fat[..sectors]);
+}
+
+// Puts the listing of any bytes at the front of `out`, and gives its length; what lies past it stays.
+pub fn list_text(image: &[u8], out: &mut [u8; 4096]) -> usize
+    ensures { Put out.old 0 (listing image.now) result out.new }
+{
+    let mut text = Out::new(out);
+    put_listing(&mut text, image);
+    text.len()
 }

@@ -42,3 +42,7 @@ pushed_none o h = record { same = refl; put = record { place = sym (add-zero o.l
 -- a text past another
 pub pushed_after : {o m n : Out} {xs ys : List ℕ} → Pushed o xs m → Pushed m ys n → Pushed o (xs ++ ys) n
 pushed_after p q = record { same = q.same ∙ p.same; put = put_after p.put q.put (omega (arith, p.put.place, p.put.kept, q.put.place, q.put.kept, q.within)); within = q.within }
+
+-- what is put into a buffer from its front on
+pub put_begun : {o n : Out} {before xs after : List ℕ} {r : ℕ} → Pushed o xs n → o.buf.now ≡ before → o.len ≡ 0 → after ≡ n.buf.now → r ≡ n.len → Put before 0 xs r after
+put_begun p b z e l = rw (e, l) (rw (b, z) at p.put)

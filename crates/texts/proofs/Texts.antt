@@ -13,9 +13,8 @@ use Rattle.lists.specs.Lists.{choose, splice}
 use Rattle.lists.proofs.Cases.{same_or}
 use Rattle.consts.specs.declared.Sector.{Sector}
 use Rattle.consts.specs.declared.Sector.TheVariants.{Free, End, Fat, Difat, Range}
-use Rattle.texts.specs.declared.Out.{Out}
 use Rattle.texts.specs.declared.Text.{Text}
-use Rattle.texts.specs.Text.{decimal_of, count_of, range_of, free, fat, difat, text_of, Put, written, Pushed}
+use Rattle.texts.specs.Text.{decimal_of, count_of, range_of, free, fat, difat, text_of, Put, written}
 use Rattle.texts.proofs.Decimal.{decimal_of_usize, decimal_of_u32}
 
 -- what stands in front of a count's word: nothing where the count is one, and else the number and a space
@@ -63,7 +62,7 @@ drop_replicate (suc k) zero v = rw zero-sub
 drop_replicate (suc k) (suc n) v = rw suc-sub-suc (drop_replicate k n v)
 
 -- a text at the front of 32 zeros
-put_written : {xs : List ℕ} {r : ℕ} {after : List ℕ} → Put (replicate 32 0) 0 xs r after → ◌≡◌ {A = Text} (record { bytes = after; len = r }) (written xs)
+pub put_written : {xs : List ℕ} {r : ℕ} {after : List ℕ} → Put (replicate 32 0) 0 xs r after → ◌≡◌ {A = Text} (record { bytes = after; len = r }) (written xs)
 unfolding written splice
 put_written {xs} {r} {after} p =
     let l : r ≡ length xs = p.place ∙ zero-add (length xs) in
@@ -72,10 +71,6 @@ put_written {xs} {r} {after} p =
     ∙ ap (λ (k : ℕ). xs ++ drop k (replicate 32 0)) (zero-add (length xs))
     ∙ ap (λ (t : List ℕ). xs ++ t) (drop_replicate (length xs) 32 0) in
     rw (l, d)
-
-pub pushed_written : {o n : Out} {xs bytes : List ℕ} {len : ℕ} → Pushed o xs n → o.buf.now ≡ replicate 32 0 → o.len ≡ 0 → bytes ≡ n.buf.now → len ≡ n.len
-    → ◌≡◌ {A = Text} (record { bytes = bytes; len = len }) (written xs)
-pushed_written p b z e l = rw (e, l) (put_written (rw (b, z) at p.put))
 
 -- the values that an item of the code can hold
 abbrev pub Held : Sector → Type 0
