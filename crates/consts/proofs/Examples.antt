@@ -2,9 +2,9 @@
 use Prim.Native.Nat.{ℕ}
 use mathlib.Core.Path.{◌≡◌, refl}
 use mathlib.Core.List.{List, [], ◌∷◌}
+use Rattle.std.specs.Prelude.{Some, None}
 use Rattle.consts.specs.Pretty.{prettify_of, item_at}
 use Rattle.consts.specs.declared.Sector.TheVariants.{Free, End, Fat, Difat, Range}
-use Rattle.consts.specs.declared.Item.TheVariants.{Next, Done}
 
 -- the FAT of the image Q: a FAT sector, a chain of two links, its end, two free sectors
 abbrev pub q : List ℕ
@@ -15,11 +15,11 @@ unfolding prettify_of
 q_items = refl
 
 -- its items at their places, the last of them past the end
-pub q_second : item_at q 1 ≡ Next (Range 2 3) 3
+pub q_second : item_at q 1 ≡ Some (record { item = Range 2 3; past = 3 })
 unfolding item_at
 q_second = refl
 
-pub q_past : item_at q 6 ≡ Done
+pub q_past : item_at q 6 ≡ None
 unfolding item_at
 q_past = refl
 

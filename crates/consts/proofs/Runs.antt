@@ -1,15 +1,18 @@
--- The laws of `run_of` and `end_of`, and what the loops over them keep. Assumes nothing.
-use Prim.Native.Nat.{ℕ, ◌+◌, ◌-◌, ◌≤◌, ◌<◌}
-use mathlib.Core.Path.{◌≡◌, refl, ◌∙◌, sym, ap}
+-- The laws of `run_of` and `end_of`, and what the chain over a range counts. Assumes nothing.
+use Prim.Native.Nat.{ℕ, zero, suc, ◌+◌, ◌-◌, ◌≤◌, ◌<◌}
+use mathlib.Core.Path.{◌≡◌, refl, ◌∙◌, sym}
 use mathlib.Core.Bool.{true, false}
 use mathlib.Core.List.{List, [], ◌∷◌}
 use mathlib.Core.Logic.{⊎_elim, ◌≢◌}
 use native.Mathlib.Omega.{arith}
+use native.Mathlib.Nat.{add-zero}
 use native.Mathlib.Numerals.{add-one}
 use borrow.Author.Tests.{eq-eqb, ne_eqb, le-leb, eqb-true, leb-true}
 use lib.Dec.{eqb, leb}
 use lib.ListN.{length, get_or, drop, drop_of_length-le}
 use lib.Seq.{drop-cons}
+use Rattle.std.specs.Prelude.{◌==◌}
+use Rattle.std.specs.List.{prefix_len, range_with_len, zip}
 use Rattle.lists.proofs.Cases.{same_or, true_or, both_true, both_left, both_right}
 use Rattle.consts.specs.Consts.{invalid_sector}
 use Rattle.consts.specs.Pretty.{goes_on}
@@ -22,7 +25,7 @@ drop_next xs i h = rw (add-one i) (drop-cons xs i 0 h)
 -- a run: an entry more, another entry, no entry
 pub run_cons : (v x : ℕ) (xs : List ℕ) → x ≡ v → run_of v (x ∷ xs) ≡ run_of v xs + 1
 unfolding run_of
-run_cons v x xs e = rw (eq-eqb x v e)
+run_cons v x xs e = rw (eq-eqb x v e) (omega arith)
 
 pub run_other : (v x : ℕ) (xs : List ℕ) → x ≢ v → run_of v (x ∷ xs) ≡ 0
 unfolding run_of
@@ -39,27 +42,6 @@ run_most v [] = omega arith
 run_most v (x ∷ xs) =
     let m : run_of v xs ≤ length xs = run_most v xs in
     ⊎_elim (λ (e : x ≡ v). rw (run_cons v x xs e) (omega arith)) (λ (n : x ≢ v). rw (run_other v x xs n) (omega arith)) (same_or x v)
-
--- what the loop over a run keeps: what was counted, with what is left to count, is the run
-pub record Counting (xs : List ℕ) (at v i : ℕ) : Type 0 where
-  pub low : at ≤ i
-  pub left : run_of v (drop at xs) ≡ i - at + run_of v (drop i xs)
-
-pub counting_begun : (xs : List ℕ) (at v : ℕ) → Counting xs at v at
-counting_begun xs at v = record { low = omega arith; left = omega arith }
-
-pub counting_on : {xs : List ℕ} {at v i : ℕ} → Counting xs at v i → i < length xs → get_or xs i 0 ≡ v → Counting xs at v (i + 1)
-counting_on {xs} {at} {v} {i} k h e =
-    let s : run_of v (drop i xs) ≡ run_of v (drop (i + 1) xs) + 1 = ap (run_of v) (drop_next xs i h) ∙ run_cons v (get_or xs i 0) (drop (i + 1) xs) e in
-    record { low = omega arith; left = omega arith }
-
-pub counting_stopped : {xs : List ℕ} {at v i : ℕ} → Counting xs at v i → i < length xs → get_or xs i 0 ≢ v → i - at ≡ run_of v (drop at xs)
-counting_stopped {xs} {at} {v} {i} k h n =
-    let s : run_of v (drop i xs) ≡ 0 = ap (run_of v) (drop_next xs i h) ∙ run_other v (get_or xs i 0) (drop (i + 1) xs) n in
-    omega arith
-
-pub counting_over : {xs : List ℕ} {at v i : ℕ} → Counting xs at v i → length xs ≤ i → i - at ≡ run_of v (drop at xs)
-counting_over {xs} {at} {v} {i} k h = omega (arith, run_past v xs i h)
 
 -- which number goes on from b
 pub goes_on_lem : (b x : ℕ) → b < invalid_sector → x ≡ b + 1 → goes_on b x ≡ true
@@ -81,6 +63,10 @@ pub end_cons : (b x : ℕ) (xs : List ℕ) → goes_on b x ≡ true → end_of b
 unfolding end_of
 end_cons b x xs t = rw t
 
+end_none : (b : ℕ) → end_of b [] ≡ b
+unfolding end_of
+end_none b = refl
+
 pub end_other : (b x : ℕ) (xs : List ℕ) → goes_on b x ≡ false → end_of b (x ∷ xs) ≡ b
 unfolding end_of
 end_other b x xs f = rw f
@@ -96,32 +82,16 @@ end_within b (x ∷ xs) =
     (λ (f : goes_on b x ≡ false). rw (end_other b x xs f) (omega arith, omega arith))
     (true_or (goes_on b x))
 
--- what the loop over a range keeps: what is left from here leads to the same end
-pub record Ranging (xs : List ℕ) (from first i end : ℕ) : Type 0 where
-  pub left : end_of first (drop from xs) ≡ end_of end (drop i xs)
+-- the numbers after b that the entries at the front are lead to the range's end
+counted_on : (n b : ℕ) (xs : List ℕ) → n ≡ invalid_sector - b → b + prefix_len (λ p. p.1 == p.0 + 1) (zip (range_with_len b n) xs) ≡ end_of b xs
+counted_on zero b [] e = add-zero b ∙ sym (end_none b)
+counted_on (suc n) b [] e = add-zero b ∙ sym (end_none b)
+counted_on zero b (x ∷ xs) e = add-zero b ∙ sym (end_other b x xs (goes_not b x (λ g. omega arith)))
+counted_on (suc n) b (x ∷ xs) e =
+    ⊎_elim
+    (λ (t : x ≡ b + 1). rw (eq-eqb x (b + 1) t, end_cons b x xs (goes_on_lem b x (omega arith) t), ← counted_on n (b + 1) xs (omega arith)) (omega arith))
+    (λ (f : x ≢ b + 1). rw (ne_eqb x (b + 1) f, end_other b x xs (goes_not b x (λ g. f g.0))) (omega arith))
+    (same_or x (b + 1))
 
-pub ranging_begun : (xs : List ℕ) (from first : ℕ) → Ranging xs from first from first
-ranging_begun xs from first = record { left = refl }
-
-pub ranging_on : {xs : List ℕ} {from first i end : ℕ} → Ranging xs from first i end → i < length xs → end < invalid_sector → get_or xs i 0 ≡ end + 1
-    → Ranging xs from first (i + 1) (end + 1)
-ranging_on {xs} {from} {first} {i} {end} k h low e = record {
-  left = k.left ∙ ap (end_of end) (drop_next xs i h) ∙ end_cons end (get_or xs i 0) (drop (i + 1) xs) (goes_on_lem end (get_or xs i 0) low e);
-}
-
-ranging_closed : {xs : List ℕ} {from first i end : ℕ} → Ranging xs from first i end → i < length xs
-    → ((get_or xs i 0 ≡ end + 1) × (get_or xs i 0 ≤ invalid_sector) → ⊥) → end ≡ end_of first (drop from xs)
-ranging_closed {xs} {from} {first} {i} {end} k h n =
-    sym (k.left ∙ ap (end_of end) (drop_next xs i h) ∙ end_other end (get_or xs i 0) (drop (i + 1) xs) (goes_not end (get_or xs i 0) n))
-
-pub ranging_full : {xs : List ℕ} {from first i end : ℕ} → Ranging xs from first i end → i < length xs → invalid_sector ≤ end
-    → end ≡ end_of first (drop from xs)
-ranging_full k h high = ranging_closed k h (λ e. omega arith)
-
-pub ranging_stopped : {xs : List ℕ} {from first i end : ℕ} → Ranging xs from first i end → i < length xs → get_or xs i 0 ≢ end + 1
-    → end ≡ end_of first (drop from xs)
-ranging_stopped k h n = ranging_closed k h (λ e. n e.0)
-
-pub ranging_over : {xs : List ℕ} {from first i end : ℕ} → Ranging xs from first i end → length xs ≤ i → end ≡ end_of first (drop from xs)
-unfolding end_of
-ranging_over {xs} {from} {first} {i} {end} k h = sym (k.left ∙ ap (end_of end) (drop_of_length-le xs h))
+pub end_counted : (b : ℕ) (xs : List ℕ) → b + prefix_len (λ p. p.1 == p.0 + 1) (zip (range_with_len b (invalid_sector - b)) xs) ≡ end_of b xs
+end_counted b xs = counted_on (invalid_sector - b) b xs refl

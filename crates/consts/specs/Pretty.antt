@@ -1,11 +1,10 @@
 -- The short list of a run of entries, from the Rust's `prettify`. Assumes nothing.
-use Rattle.std.specs.Prelude.{ℕ, ◌+◌, Bool, false, List, [], ◌∷◌, leb, eqb, drop}
+use Rattle.std.specs.Prelude.{ℕ, ◌+◌, Bool, false, List, [], ◌∷◌, Option, None, Some, leb, eqb, drop}
 use Rattle.lists.specs.Lists.{choose, both}
 use Rattle.consts.specs.Consts.{invalid_sector, difat_sector, fat_sector, end_of_chain, free_sector}
 use Rattle.consts.specs.declared.Sector.{Sector}
 use Rattle.consts.specs.declared.Sector.TheVariants.{Free, End, Fat, Difat, Range}
-use Rattle.consts.specs.declared.Item.{Item}
-use Rattle.consts.specs.declared.Item.TheVariants.{Next, Done}
+use Rattle.consts.specs.declared.Found.{Found}
 
 -- `Sector::new`: the item that an entry begins.
 unfoldable pub begun : ℕ → Sector
@@ -52,20 +51,20 @@ prettify_of [] = []
 prettify_of (x ∷ xs) = gather (begun x) xs
 
 -- `prettify`, its loop while s is the last item: what s becomes, and the place past it, where the entries begin at place p.
-unfoldable pub closed : ℕ → Sector → List ℕ → Item
+unfoldable pub closed : ℕ → Sector → List ℕ → Found
 unfolding joins grown
-closed p s [] = Next s p
+closed p s [] = record { item = s; past = p }
 closed p s (x ∷ xs) =
     let more = closed (p + 1) (grown s) xs in
-    choose (joins s x) more (Next s p)
+    choose (joins s x) more (record { item = s; past = p })
 
 -- `prettify`, its first item and the place past it, where the entries begin at place p.
-unfoldable pub first_item : ℕ → List ℕ → Item
+unfoldable pub first_item : ℕ → List ℕ → Option Found
 unfolding begun closed
-first_item p [] = Done
-first_item p (x ∷ xs) = closed (p + 1) (begun x) xs
+first_item p [] = None
+first_item p (x ∷ xs) = Some (closed (p + 1) (begun x) xs)
 
 -- `prettify` of the entries from place p on: its first item and the place past it, or none where none are left.
-unfoldable pub item_at : List ℕ → ℕ → Item
+unfoldable pub item_at : List ℕ → ℕ → Option Found
 unfolding first_item
 item_at xs p = first_item p (drop p xs)

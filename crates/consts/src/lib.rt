@@ -4,10 +4,11 @@
 pub mod refusal;
 
 ghost use Rattle.std.specs.Prelude.{◌≡◌, drop};
+ghost use Rattle.std.specs.Iterator.{YieldsFirst, item_count};
 ghost use Rattle.consts.specs.Consts.{header_len, dir_entry_len, header_difat, mini_len};
 ghost use Rattle.consts.specs.Kinds.{kind_of};
-ghost use Rattle.consts.specs.Pretty.{item_at};
-ghost use Rattle.consts.specs.Runs.{run_of, end_of};
+ghost use Rattle.consts.specs.Pretty.{item_at, prettify_of};
+ghost use Rattle.consts.specs.Runs.{run_of, end_of, size_of};
 
 // The header's length in bytes.
 pub const HEADER_LEN: usize = 512;
@@ -76,7 +77,7 @@ pub fn format_lengths() -> Lengths
 }
 
 // What an entry of the FAT can be.
-#[derive(Clone, Copy)]
+#[derive(Clone, Copy, Debug, PartialEq, Eq)]
 pub enum Kind {
     Regular,
     Reserved,
@@ -87,6 +88,7 @@ pub enum Kind {
 }
 
 // The kind of an entry: every u32 has one.
+#[tactic(auto, unfolding(crate::specs::Kinds::kind_of))]
 pub fn kind_of(entry: u32) -> Kind
     ensures { result ≡ kind_of entry }
 {
@@ -101,7 +103,7 @@ pub fn kind_of(entry: u32) -> Kind
 }
 
 // One item of the short list: so many FREE, FAT or DIFAT entries in a row, one END, or the numbers from the first to the second.
-#[derive(Clone, Copy)]
+#[derive(Clone, Copy, Debug, PartialEq, Eq)]
 pub enum Sector {
     Free(usize),
     End,
@@ -110,73 +112,80 @@ pub enum Sector {
     Range(u32, u32),
 }
 
-// An item and the index past its entries, or none left.
-#[derive(Clone, Copy)]
-pub enum Item {
-    Next(Sector, usize),
-    Done,
-}
-
-// How many entries from `at` on equal `value`, without a gap.
-fn run_of(sectors: &[u32], at: usize, value: u32) -> usize
-    ensures { result ≡ run_of value (drop at sectors.now) }
-{
-    let mut past = at;
-    while past < sectors.len() {
-        if sectors[past] != value {
-            return past - at;
+impl Sector {
+    // How many entries the item stands for.
+    fn size(self) -> usize
+        ensures { result ≡ size_of self }
+    {
+        match self {
+            Sector::Free(n) | Sector::Fat(n) | Sector::Difat(n) => n,
+            Sector::End => 1,
+            Sector::Range(first, last) => (first..last).len() + 1,
         }
-        past += 1;
     }
-    past - at
 }
 
-// The last of the numbers first, first + 1, .. that the entries from `from` on go on with; a number above 0xfffffffb never joins.
-fn range_end(sectors: &[u32], from: usize, first: u32) -> u32
-    ensures { result ≡ end_of first (drop from sectors.now) }
+// An item of the short list, and the index past its entries.
+#[derive(Clone, Copy, Debug, PartialEq, Eq)]
+pub struct Found {
+    pub item: Sector,
+    pub past: usize,
+}
+
+// How many entries equal `value` before the first that does not.
+fn run_of(sectors: &[u32], value: u32) -> usize
+    ensures { result ≡ run_of value sectors.now }
 {
-    let mut end = first;
-    let mut i = from;
-    while i < sectors.len() {
-        if INVALID_SECTOR <= end {
-            return end;
-        }
-        if sectors[i] != end + 1 {
-            return end;
-        }
-        end += 1;
-        i += 1;
-    }
-    end
+    sectors.iter().take_while(|x| **x == value).count()
 }
 
-// The item that begins at `at`, with the index past it; `Done` at the end of the entries and beyond.
-pub fn prettify(sectors: &[u32], at: usize) -> Item
+// The last of the numbers first, first + 1, .. that the entries go on with; a number above 0xfffffffb never joins.
+fn range_end(sectors: &[u32], first: u32) -> u32
+    ensures { result ≡ end_of first sectors.now }
+{
+    let numbered = (first..INVALID_SECTOR).zip(sectors);
+    let more = numbered.take_while(|(end, x)| **x == *end + 1).count();
+    first + more as u32
+}
+
+// The item that begins at `at`, with the index past it; none at the end of the entries and beyond.
+pub fn prettify(sectors: &[u32], at: usize) -> Option<Found>
     ensures { result ≡ item_at sectors.now at }
 {
-    if sectors.len() <= at {
-        return Item::Done;
-    }
-    let first = sectors[at];
-    match first {
-        END_OF_CHAIN => {
-            return Item::Next(Sector::End, at + 1);
-        }
-        FREE_SECTOR => {
-            let n = run_of(sectors, at, FREE_SECTOR);
-            return Item::Next(Sector::Free(n), at + n);
-        }
-        DIFAT_SECTOR => {
-            let n = run_of(sectors, at, DIFAT_SECTOR);
-            return Item::Next(Sector::Difat(n), at + n);
-        }
-        FAT_SECTOR => {
-            let n = run_of(sectors, at, FAT_SECTOR);
-            return Item::Next(Sector::Fat(n), at + n);
-        }
-        _ => {
-            let end = range_end(sectors, at + 1, first);
-            return Item::Next(Sector::Range(first, end), at + 1 + (end - first) as usize);
-        }
+    let left = sectors.get(at..)?;
+    let (&first, rest) = left.split_first()?;
+    let item = match first {
+        END_OF_CHAIN => Sector::End,
+        FREE_SECTOR => Sector::Free(run_of(left, FREE_SECTOR)),
+        DIFAT_SECTOR => Sector::Difat(run_of(left, DIFAT_SECTOR)),
+        FAT_SECTOR => Sector::Fat(run_of(left, FAT_SECTOR)),
+        _ => Sector::Range(first, range_end(rest, first)),
+    };
+    let past = at + item.size();
+    Some(Found { item, past })
+}
+
+// The short list of the entries that it holds, item by item.
+#[derive(Clone, Copy)]
+pub struct ShortList<'a>(&'a [u32]);
+
+// The short list of a run of entries.
+pub fn short_list(sectors: &[u32]) -> ShortList
+    ensures { result.0.now ≡ sectors.now }
+{
+    ShortList(sectors)
+}
+
+impl Iterator for ShortList<'_> {
+    type Item = Sector;
+
+    ghost next_gives = { YieldsFirst (λ s. prettify_of s.0.now) };
+
+    ghost remaining = { item_count (λ s. prettify_of s.0.now) };
+
+    fn next(&mut self) -> Option<Sector> {
+        let Found { item, past } = prettify(self.0, 0)?;
+        self.0 = self.0.split_at(past).1;
+        Some(item)
     }
 }

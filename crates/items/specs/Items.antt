@@ -1,5 +1,5 @@
 -- The numbers that stand for kinds of entries and for items of the short list at the library's edge. Assumes nothing.
-use Rattle.std.specs.Prelude.{ℕ, List, [], ◌∷◌, eqb, leb}
+use Rattle.std.specs.Prelude.{ℕ, List, [], ◌∷◌, Option, None, Some, eqb, leb}
 use Rattle.lists.specs.Lists.{choose, both}
 use Rattle.consts.specs.Consts.{free_sector}
 use Rattle.texts.specs.Text.{text_of, written}
@@ -8,11 +8,8 @@ use Rattle.consts.specs.declared.Kind.TheVariants.{Regular, Reserved}
 use Rattle.consts.specs.declared.Kind.TheVariants as kinds
 use Rattle.consts.specs.declared.Sector.{Sector}
 use Rattle.consts.specs.declared.Sector.TheVariants.{Free, End, Fat, Difat, Range}
-use Rattle.consts.specs.declared.Item.{Item}
-use Rattle.consts.specs.declared.Item.TheVariants.{Next, Done}
+use Rattle.consts.specs.declared.Found.{Found}
 use Rattle.texts.specs.declared.Text.{Text}
-use Rattle.items.specs.declared.Named.{Named}
-use Rattle.items.specs.declared.Named.TheVariants.{Known, Unknown}
 
 -- MS-CFB 2.1: the kinds in the order of the entries that have them
 abbrev pub kind_number : Kind → ℕ
@@ -48,30 +45,30 @@ sector_last (Difat n) = 0
 sector_last (Range a b) = b
 
 -- the number of an answer of `prettify`: its item's, or 0 where it has none
-abbrev pub item_number : Item → ℕ
-item_number (Next s past) = sector_number s
-item_number Done = 0
+abbrev pub item_number : Option Found → ℕ
+item_number (Some found) = sector_number found.item
+item_number None = 0
 
 -- the three numbers beside it: the item's two, and the place past the item
-abbrev pub item_numbers : Item → List ℕ
-item_numbers (Next s past) = sector_first s ∷ sector_last s ∷ past ∷ []
-item_numbers Done = 0 ∷ 0 ∷ 0 ∷ []
+abbrev pub item_numbers : Option Found → List ℕ
+item_numbers (Some found) = sector_first found.item ∷ sector_last found.item ∷ found.past ∷ []
+item_numbers None = 0 ∷ 0 ∷ 0 ∷ []
 
 -- a range whose two numbers are entries of 32 bits
-unfoldable pub named_range : ℕ → ℕ → Named
-named_range a b = choose (both (leb a free_sector) (leb b free_sector)) (Known (Range a b)) Unknown
+unfoldable pub named_range : ℕ → ℕ → Option Sector
+named_range a b = choose (both (leb a free_sector) (leb b free_sector)) (Some (Range a b)) None
 
 -- the item that a case's number and two numbers name, if they name one
-unfoldable pub named_of : ℕ → ℕ → ℕ → Named
+unfoldable pub named_of : ℕ → ℕ → ℕ → Option Sector
 unfolding named_range
 named_of kind a b =
-    choose (eqb kind 1) (Known (Free a))
-    (choose (eqb kind 2) (Known End)
-    (choose (eqb kind 3) (Known (Fat a))
-    (choose (eqb kind 4) (Known (Difat a))
-    (choose (eqb kind 5) (named_range a b) Unknown))))
+    choose (eqb kind 1) (Some (Free a))
+    (choose (eqb kind 2) (Some End)
+    (choose (eqb kind 3) (Some (Fat a))
+    (choose (eqb kind 4) (Some (Difat a))
+    (choose (eqb kind 5) (named_range a b) None))))
 
 -- the text of the item that is named, in 32 bytes; where none is, it is empty
-abbrev pub named_text : Named → Text
-named_text (Known s) = written (text_of s)
-named_text Unknown = written []
+abbrev pub named_text : Option Sector → Text
+named_text (Some s) = written (text_of s)
+named_text None = written []

@@ -8,7 +8,8 @@ use lib.ListN.{length, take, drop, replicate, length-append}
 use lib.Seq.{take_at}
 use Rattle.lists.specs.Lists.{splice}
 use Rattle.lists.proofs.Tab.{length_tab}
-use Rattle.texts.specs.Text.{Put}
+use Rattle.texts.specs.Text.{Put, Pushed}
+use Rattle.texts.specs.declared.Out.{Out}
 use Rattle.header.specs.Versions.{length_of}
 use Rattle.header.specs.Read.{header_of}
 use Rattle.header.specs.declared.Version.{Version}
@@ -75,18 +76,18 @@ opened_fat img img' t t' r h l short says =
     }
 
 -- document 01, "longer input is `refused 1`"
-pub long_listing : (img : List ℕ) {b : List ℕ} {r : ℕ} {after : List ℕ} → 65536 < length img → Put b 0 (refused_line 1) r after → Put b 0 (listing img) r after
+pub long_listing : (img : List ℕ) {o n : Out} → 65536 < length img → Pushed o (refused_line 1) n → Pushed o (listing img) n
 unfolding listing
 long_listing img h p = rw (lt-ltb 65536 (length img) h) p
 
 -- the listing of an image that is refused is the line of its number
-pub refused_listing : (img : List ℕ) {fat b : List ℕ} {v : Verdict} {w k r : ℕ} {after : List ℕ} → length img ≤ 65536 → FatOpened img v fat → v ≡ Refused k → w ≡ number_of v
-    → Put b 0 (refused_line w) r after → Put b 0 (listing img) r after
+pub refused_listing : (img : List ℕ) {fat : List ℕ} {v : Verdict} {w k : ℕ} {o n : Out} → length img ≤ 65536 → FatOpened img v fat → v ≡ Refused k → w ≡ number_of v
+    → Pushed o (refused_line w) n → Pushed o (listing img) n
 unfolding listing shown
-refused_listing img {b = b} {v} {w} {k} {r} {after} h o e q p =
-    let s : (strict_no img ≡ 0 → ⊥) × (k ≡ strict_no img) = refused_says k (strict_no img) _ _ (sym (ap numbers_of e) ∙ o.verdict) in
-    let n : w ≡ strict_no img = q ∙ ap number_of e ∙ s.1 in
-    rw (le-ltb 65536 (length img) h, ne_eqb (strict_no img) 0 s.0) (subst (λ (x : ℕ). Put b 0 (refused_line x) r after) n p)
+refused_listing img {v = v} {w} {k} {o} {n} h f e q p =
+    let s : (strict_no img ≡ 0 → ⊥) × (k ≡ strict_no img) = refused_says k (strict_no img) _ _ (sym (ap numbers_of e) ∙ f.verdict) in
+    let no : w ≡ strict_no img = q ∙ ap number_of e ∙ s.1 in
+    rw (le-ltb 65536 (length img) h, ne_eqb (strict_no img) 0 s.0) (subst (λ (x : ℕ). Pushed o (refused_line x) n) no p)
 
 -- what the verdict of an accepted image counts
 abbrev Counts : List ℕ → ℕ → ℕ → Type 0
@@ -118,14 +119,14 @@ unfolding sectors_of
 accepted_short {img} h o e = omega (arith, ap length (accepted_front o e), fat_length img, few_sectors (header_of img).version (length img) h)
 
 -- the listing of an image that is accepted is that of its counts and of the front of its table
-pub accepted_listing : (img : List ℕ) {fat b : List ℕ} {v : Verdict} {a c r : ℕ} {after : List ℕ} → length img ≤ 65536 → FatOpened img v fat → v ≡ Accepted a c
-    → Put b 0 (listed a c (take a fat)) r after → Put b 0 (listing img) r after
+pub accepted_listing : (img : List ℕ) {fat : List ℕ} {v : Verdict} {a c : ℕ} {o n : Out} → length img ≤ 65536 → FatOpened img v fat → v ≡ Accepted a c
+    → Pushed o (listed a c (take a fat)) n → Pushed o (listing img) n
 unfolding listing shown
-accepted_listing img {fat} {b} {v} {a} {c} {r} {after} h o e p =
-    let k : Counts img a c = accepted_counts o e in
+accepted_listing img {fat} {v} {a} {c} {o} {n} h f e p =
+    let k : Counts img a c = accepted_counts f e in
     let text : listed a c (take a fat) ≡ listed (sectors_of img (length img)) (length (tables_of img (length img)).frees) (tables_of img (length img)).fat
-    = ap (listed a c) (accepted_front o e) ∙ ap (λ (x : ℕ). listed x c (tables_of img (length img)).fat) k.1 ∙ ap (λ (x : ℕ). listed (sectors_of img (length img)) x (tables_of img (length img)).fat) k.2 in
-    rw (le-ltb 65536 (length img) h, eq-eqb (strict_no img) 0 k.0) (subst (λ (x : List ℕ). Put b 0 x r after) text p)
+    = ap (listed a c) (accepted_front f e) ∙ ap (λ (x : ℕ). listed x c (tables_of img (length img)).fat) k.1 ∙ ap (λ (x : ℕ). listed (sectors_of img (length img)) x (tables_of img (length img)).fat) k.2 in
+    rw (le-ltb 65536 (length img) h, eq-eqb (strict_no img) 0 k.0) (subst (λ (x : List ℕ). Pushed o x n) text p)
 
 -- a text that was put at the front is the front
 pub put_front : {b xs : List ℕ} {r : ℕ} {after : List ℕ} → Put b 0 xs r after → (r ≤ length after) × (take r after ≡ xs)

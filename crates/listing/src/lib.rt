@@ -1,15 +1,19 @@
 // The listing of an image: its opening, taken apart, and the text of either answer.
 #![tactic(auto)]
 
-ghost use Rattle.std.specs.Prelude.{◌≤◌, length};
-ghost use Rattle.texts.specs.Text.{Put};
+ghost use Rattle.std.specs.Prelude.{◌+◌, ◌≤◌, length};
+ghost use Rattle.texts.specs.Text.{Put, Pushed};
 ghost use Rattle.listing.specs.Listing.{listing};
 ghost use Rattle.listing.specs.Verdict.{FatOpened};
 
 use cfb::{Opened, State};
 use header::Validation;
 use lines::{put_listed, put_refused};
+<<<<<<< HEAD
 use tables::TablesMut;
+=======
+use texts::Out;
+>>>>>>> 09a4d7d43d9142e574d8b0a46b1fd62faba99752
 
 // The longest image that is listed.
 const MOST: usize = 65536;
@@ -29,17 +33,37 @@ fn open_fat(image: &[u8], fat: &mut [u32; 128]) -> Opened
     State::open(image, image.len(), Validation::Strict, &mut tables)
 }
 
-// Puts the listing of any bytes at the front of `out`, and gives its length; what lies past it stays.
-pub fn list_text(image: &[u8], out: &mut [u8; 4096]) -> usize
-    ensures { Put out.old 0 (listing image.now) result out.new }
+// Puts the listing of any bytes.
+fn put_listing(out: &mut Out, image: &[u8])
+    requires { out.old.len + 4096 ≤ length out.old.buf.now }
+    ensures { Pushed out.old (listing image.now) out.new }
 {
     if MOST < image.len() {
-        return put_refused(out, 1);
+        put_refused(out, 1);
+        return;
     }
     let mut fat = [0u32; 128];
+<<<<<<< HEAD
     let opened = open_fat(image, &mut fat);
     let Ok(counts) = opened.verdict else {
         return put_refused(out, opened.number());
     };
     put_listed(out, counts.sectors, counts.free, &fat[..counts.sectors])
+=======
+    let verdict = open_fat(image, &mut fat);
+    let Verdict::Accepted { sectors, free } = verdict else {
+        put_refused(out, verdict.number());
+        return;
+    };
+    put_listed(out, sectors, free, &fat[..sectors]);
+}
+
+// Puts the listing of any bytes at the front of `out`, and gives its length; what lies past it stays.
+pub fn list_text(image: &[u8], out: &mut [u8; 4096]) -> usize
+    ensures { Put out.old 0 (listing image.now) result out.new }
+{
+    let mut text = Out::new(out);
+    put_listing(&mut text, image);
+    text.len()
+>>>>>>> 09a4d7d43d9142e574d8b0a46b1fd62faba99752
 }

@@ -6,6 +6,8 @@ use mathlib.Core.Logic.{◌⊎◌, inl, inr, ⊎_elim}
 use native.Mathlib.Omega.{arith}
 use native.Mathlib.Nat.{pow-suc}
 use borrow.Author.Tests.{lt-ltb, le-ltb}
+use lib.Dec.{ltb}
+use Rattle.lists.specs.Lists.{choose}
 use lib.ListN.{length, get_or, length-append, get_or-append}
 use lib.Seq.{get_or_at}
 use Rattle.lists.proofs.Cases.{below_or}
@@ -44,6 +46,28 @@ decimal_more n h =
     digits_fuel n (suc n) n (omega arith) (omega arith)
     ∙ digits_more n n h
     ∙ ap (λ (l : List ℕ). l ++ ((48 + n % 10) ∷ [])) (digits_fuel n (n / 10) (n / 10) (omega arith) (omega arith))
+
+-- the digits in front of the last one, of which a number of one digit has none
+unfoldable pub front_of : ℕ → List ℕ
+front_of n = choose (ltb n 10) [] (decimal_of (n / 10))
+
+pub front_one : (n : ℕ) → n < 10 → [] ≡ front_of n
+unfolding front_of
+front_one n h = rw (lt-ltb n 10 h)
+
+pub front_more : (n : ℕ) → 10 ≤ n → decimal_of (n / 10) ≡ front_of n
+unfolding front_of
+front_more n h = rw (le-ltb n 10 h)
+
+pub decimal_front : (n : ℕ) → front_of n ++ ((48 + n % 10) ∷ []) ≡ decimal_of n
+decimal_front n =
+    ⊎_elim
+    (λ (low : n < 10). let m : n % 10 ≡ n = omega arith in rw (m, ← front_one n low, decimal_one n low))
+    (λ (high : 10 ≤ n). rw (← front_more n high) (sym (decimal_more n high)))
+    (below_or n 10)
+
+pub front_length : (n : ℕ) → length (decimal_of n) ≡ length (front_of n) + 1
+front_length n = ap length (sym (decimal_front n)) ∙ length-append (front_of n) ((48 + n % 10) ∷ [])
 
 -- the number of digits
 pub decimal_length_one : (n : ℕ) → n < 10 → length (decimal_of n) ≡ 1

@@ -1,8 +1,9 @@
 -- The text of an item, in ASCII, from the Rust's `Debug` of `Sector`. Assumes nothing.
-use Rattle.std.specs.Prelude.{ℕ, zero, suc, ◌+◌, ◌-◌, ◌/◌, ◌%◌, ◌≡◌, List, [], ◌∷◌, ◌++◌, ltb, eqb, length, replicate}
+use Rattle.std.specs.Prelude.{ℕ, zero, suc, ◌+◌, ◌-◌, ◌/◌, ◌%◌, ◌≡◌, ◌≤◌, List, [], ◌∷◌, ◌++◌, ltb, eqb, length, replicate}
 use Rattle.lists.specs.Lists.{choose, splice}
 use Rattle.consts.specs.declared.Sector.{Sector}
 use Rattle.consts.specs.declared.Sector.TheVariants.{Free, End, Fat, Difat, Range}
+use Rattle.texts.specs.declared.Out.{Out}
 use Rattle.texts.specs.declared.Text.{Text}
 
 -- `{n}`, f + 1 digits at most: one digit, or the digits of n / 10 and the last one.
@@ -61,3 +62,9 @@ pub record Put (before : List ℕ) (at : ℕ) (xs : List ℕ) (r : ℕ) (after :
   pub place : r ≡ at + length xs
   pub kept : length after ≡ length before
   pub buffer : after ≡ splice before at xs
+
+-- the same, of a buffer that is put into: xs stands behind what was put before, within the buffer, which is the one that was lent
+pub record Pushed (old : Out) (xs : List ℕ) (new : Out) : Type 0 where
+  pub same : new.buf.ghost_name ≡ old.buf.ghost_name
+  pub put : Put old.buf.now old.len xs new.len new.buf.now
+  pub within : new.len ≤ length new.buf.now

@@ -2,7 +2,7 @@
 #![tactic(auto)]
 
 ghost use Rattle.std.specs.Prelude.{◌≡◌, ◌+◌, ◌≤◌, length};
-ghost use Rattle.texts.specs.Text.{decimal_of, count_of, range_of, text_of, written, Put};
+ghost use Rattle.texts.specs.Text.{decimal_of, count_of, range_of, text_of, written, Pushed};
 
 use consts::Sector;
 
@@ -13,79 +13,94 @@ pub struct Text {
     pub len: usize,
 }
 
-// Puts `word` at `at` and gives the place past it.
-fn put_bytes(buf: &mut [u8], at: usize, word: &[u8]) -> usize
-    requires { at + length word.now ≤ length buf.old }
-    ensures { Put buf.old at word.now result buf.new }
-{
-    let mut i = 0;
-    while i < word.len() {
-        buf[at + i] = word[i];
-        i += 1;
-    }
-    at + i
+// A lent buffer that texts are put into one after the other, and how many bytes they take.
+// kept: std's `fmt::Write` and `write!` are not used, since no contract of theirs says that a writing succeeds, and `text_of` has
+// its text for every item.
+#[derive(Drop)]
+pub struct Out<'a> {
+    buf: &'a mut [u8],
+    len: usize,
 }
 
-// Puts `n` in decimal at `at` and gives the place past it.
-fn put_decimal(buf: &mut [u8], at: usize, n: usize) -> usize
-    requires { at + length (decimal_of n) ≤ length buf.old }
-    ensures { Put buf.old at (decimal_of n) result buf.new }
-{
-    if n < 10 {
-        buf[at] = 48 + n as u8;
-        return at + 1;
+impl<'a> Out<'a> {
+    // Nothing, at the front of the buffer.
+    pub fn new(buf: &'a mut [u8]) -> Out<'a>
+        ensures same { result.buf.ghost_name ≡ buf.entry.ghost_name }
+        ensures held { result.buf.now ≡ buf.old }
+        ensures none { result.len ≡ 0 }
+    {
+        Out { buf, len: 0 }
     }
-    let last = put_decimal(buf, at, n / 10);
-    buf[last] = 48 + (n % 10) as u8;
-    last + 1
-}
 
-// Puts a count and its word at the front and gives the length: a count of one is the word alone.
-fn put_count(buf: &mut [u8], n: usize, word: &[u8]) -> usize
-    requires { 21 + length word.now ≤ length buf.old }
-    ensures { Put buf.old 0 (count_of n word.now) result buf.new }
-{
-    if n == 1 {
-        return put_bytes(buf, 0, word);
+    // How many bytes the texts take.
+    pub fn len(&self) -> usize
+        ensures { result ≡ self.now.len }
+    {
+        self.len
     }
-    let a = put_decimal(buf, 0, n);
-    let b = put_bytes(buf, a, b" ");
-    put_bytes(buf, b, word)
-}
 
-// Puts a range at the front and gives the length: a range of one number is that number.
-fn put_range(buf: &mut [u8], first: u32, last: u32) -> usize
-    requires { 23 ≤ length buf.old }
-    ensures { Put buf.old 0 (range_of first last) result buf.new }
-{
-    let a = put_decimal(buf, 0, first as usize);
-    if first == last {
-        return a;
+    // Puts a word behind what was put before.
+    pub fn push(&mut self, word: &[u8])
+        requires { self.old.len + length word.now ≤ length self.old.buf.now }
+        ensures { Pushed self.old word.now self.new }
+    {
+        let end = self.len + word.len();
+        self.buf[self.len..end].copy_from_slice(word);
+        self.len = end;
     }
-    let b = put_bytes(buf, a, b"..=");
-    put_decimal(buf, b, last as usize)
-}
 
-// Puts the text of an item at the front and gives its length.
-fn put_sector(buf: &mut [u8], s: Sector) -> usize
-    requires { 26 ≤ length buf.old }
-    ensures { Put buf.old 0 (text_of s) result buf.new }
-{
-    match s {
-        Sector::Free(n) => {
-            return put_count(buf, n, b"FREE");
+    // Puts `n` in decimal behind what was put before.
+    pub fn push_decimal(&mut self, n: usize)
+        requires { self.old.len + length (decimal_of n) ≤ length self.old.buf.now }
+        ensures { Pushed self.old (decimal_of n) self.new }
+    {
+        if 10 <= n {
+            self.push_decimal(n / 10);
         }
-        Sector::End => {
-            return put_bytes(buf, 0, b"EOC");
+        self.push(&[b'0' + (n % 10) as u8]);
+    }
+
+    // Puts a count and its word: a count of one is the word alone.
+    #[tactic(auto, using(crate::proofs::Decimal::decimal_of_usize))]
+    fn push_count(&mut self, n: usize, word: &[u8])
+        requires { self.old.len + 21 + length word.now ≤ length self.old.buf.now }
+        ensures put { Pushed self.old (count_of n word.now) self.new }
+        ensures short { self.new.len ≤ self.old.len + 21 + length word.now }
+    {
+        if n != 1 {
+            self.push_decimal(n);
+            self.push(b" ");
         }
-        Sector::Fat(n) => {
-            return put_count(buf, n, b"FAT");
+        self.push(word);
+    }
+
+    // Puts a range: a range of one number is that number.
+    #[tactic(auto, using(crate::proofs::Decimal::decimal_of_u32, crate::proofs::Texts::range_same))]
+    fn push_range(&mut self, first: u32, last: u32)
+        requires { self.old.len + 23 ≤ length self.old.buf.now }
+        ensures put { Pushed self.old (range_of first last) self.new }
+        ensures short { self.new.len ≤ self.old.len + 23 }
+    {
+        self.push_decimal(first as usize);
+        if first != last {
+            self.push(b"..=");
+            self.push_decimal(last as usize);
         }
-        Sector::Difat(n) => {
-            return put_count(buf, n, b"DIFAT");
-        }
-        Sector::Range(first, last) => {
-            return put_range(buf, first, last);
+    }
+
+    // Puts the text of an item as the Rust's `Debug` writes it.
+    #[tactic(auto, unfolding(crate::specs::Text::text_of))]
+    pub fn push_item(&mut self, item: Sector)
+        requires { self.old.len + 26 ≤ length self.old.buf.now }
+        ensures put { Pushed self.old (text_of item) self.new }
+        ensures short { self.new.len ≤ self.old.len + 26 }
+    {
+        match item {
+            Sector::Free(n) => self.push_count(n, b"FREE"),
+            Sector::End => self.push(b"EOC"),
+            Sector::Fat(n) => self.push_count(n, b"FAT"),
+            Sector::Difat(n) => self.push_count(n, b"DIFAT"),
+            Sector::Range(first, last) => self.push_range(first, last),
         }
     }
 }
@@ -95,15 +110,8 @@ pub fn text_of(s: Sector) -> Text
     ensures { result ≡ written (text_of s) }
 {
     let mut bytes = [0u8; 32];
-    let len = put_sector(&mut bytes, s);
-    Text { bytes, len }
-}
-
-// The decimal digits of a number, as a text.
-pub fn digits_of(n: usize) -> Text
-    ensures { result ≡ written (decimal_of n) }
-{
-    let mut bytes = [0u8; 32];
-    let len = put_decimal(&mut bytes, 0, n);
+    let mut out = Out::new(&mut bytes);
+    out.push_item(s);
+    let len = out.len();
     Text { bytes, len }
 }

@@ -1,20 +1,24 @@
-use native.Mathlib.Omega.{arith}
-use Rattle.consts.proofs.Runs.{ranging_begun, ranging_on, ranging_full, ranging_stopped, ranging_over}
+-- `consts::range_end` meets its contract: the chain takes the numbers after `first` that the entries are, and counts them. Assumes nothing.
+use Rattle.std.proofs.Common.{◌+◌, ◌-◌, ◌==◌, refl, ap, ◌∙◌, rules, tests}
+use Rattle.std.specs.List.{range_with_len, zip}
+use Rattle.std.proofs.lemmas.Iterator.{YieldsList-from_slice, YieldsList-from_range, YieldsList-from_zip}
+use Rattle.std.proofs.lemmas.Iterator.Consumers.{count_from_yields_List, YieldsList-at}
+use Rattle.std.proofs.lemmas.Iterator.Search.{YieldsList-from_take_while}
+use Rattle.std.proofs.lemmas.List.Folds.{length-prefix_len}
+use Rattle.consts.specs.Consts.{invalid_sector}
+use Rattle.consts.proofs.Runs.{end_counted}
 use Rattle.consts.proofs.range_end.Goals as goal
 
-pub loop-i-init : goal.loop-i-init
-loop-i-init c = ranging_begun _ _ _
-
-pub returns-then-end-ge-INVALID_SECTOR : goal.returns-then-end-ge-INVALID_SECTOR
-returns-then-end-ge-INVALID_SECTOR c = ranging_full c.loop-i.invariant c.loop-i-test.true (omega arith)
-
-pub returns-then-sectors-i : goal.returns-then-sectors-i
-returns-then-sectors-i c =
-    ranging_stopped c.loop-i.invariant c.loop-i-test.true c.if-sectors-i.true
-
-pub loop-i-preserved : goal.loop-i-preserved
-loop-i-preserved c =
-    ranging_on c.loop-i.invariant c.loop-i-test.true c.if-end-ge-INVALID_SECTOR.false c.if-sectors-i.false
-
 pub returns : goal.returns
-returns c = ranging_over c.loop-i.invariant c.loop-i-test.false
+returns c =
+    let first = c.args.first in
+    let xs = c.args.sectors.now in
+    let numbered = zip (range_with_len first (invalid_sector - first)) xs in
+    let zipped = c.zip-numbered.ensures in
+    let counted =
+    count_from_yields_List c.take_while.result _ c.count-more.ensures.ran
+    (YieldsList-from_take_while _ (λ p. p.1 == p.0 + 1)
+    (YieldsList-at c.take_while.ensures.source (YieldsList-from_zip (YieldsList-from_range first invalid_sector _ zipped.first refl) (YieldsList-from_slice xs zipped.second.0)))
+    c.take_while.ensures.closure c.take_while.ensures.done (λ x b q k. search (rules, tests)))
+    ∙ length-prefix_len (λ p. p.1 == p.0 + 1) numbered in
+    ap (λ n. first + n) counted ∙ end_counted first xs

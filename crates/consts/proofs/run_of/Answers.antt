@@ -1,14 +1,16 @@
-use Rattle.consts.proofs.Runs.{counting_begun, counting_on, counting_stopped, counting_over}
+-- `consts::run_of` meets its contract: the chain takes the entries at the front that are `value`, and counts them. Assumes nothing.
+use Rattle.std.proofs.Common.{◌∙◌, rules, tests, ◌==◌}
+use Rattle.std.proofs.lemmas.Iterator.{YieldsList-from_slice}
+use Rattle.std.proofs.lemmas.Iterator.Consumers.{count_from_yields_List}
+use Rattle.std.proofs.lemmas.Iterator.Search.{YieldsList-from_take_while}
+use Rattle.std.proofs.lemmas.List.Folds.{length-prefix_len}
+use Rattle.consts.specs.Runs.{run_of}
 use Rattle.consts.proofs.run_of.Goals as goal
 
-pub loop-past-init : goal.loop-past-init
-loop-past-init c = counting_begun _ _ _
-
-pub returns-then-sectors-past : goal.returns-then-sectors-past
-returns-then-sectors-past c = counting_stopped c.loop-past.invariant c.loop-past-test.true c.if-sectors-past.true
-
-pub loop-past-preserved : goal.loop-past-preserved
-loop-past-preserved c = counting_on c.loop-past.invariant c.loop-past-test.true c.if-sectors-past.false
-
 pub returns : goal.returns
-returns c = counting_over c.loop-past.invariant c.loop-past-test.false
+unfolding run_of
+returns c =
+    let xs = c.args.sectors.now in
+    count_from_yields_List c.take_while.result _ c.count.ensures.ran
+    (YieldsList-from_take_while _ (λ x. x == c.args.value) (YieldsList-from_slice xs cc) c.take_while.ensures.closure c.take_while.ensures.done (λ x b q k. search (rules, tests)))
+    ∙ length-prefix_len (λ x. x == c.args.value) xs

@@ -1,31 +1,30 @@
-use native.Mathlib.Omega.{arith}
-use Rattle.lines.proofs.Puts.{listing_begun, listing_room, listing_on, listing_done, listing_over, item_ahead}
+use Rattle.std.proofs.Common.{[], ◌∷◌, ◌<◌, length, arith, rules, length-append}
+use Rattle.std.proofs.lemmas.Iterator.Consumers.{YieldsList-from_first, YieldsList-turn}
+use Rattle.consts.specs.Pretty.{prettify_of}
+use Rattle.consts.proofs.Listing.{items_few}
+use Rattle.texts.proofs.Puts.{pushed_none, pushed_after}
+use Rattle.lines.specs.Lines.{lines_of}
+use Rattle.lines.proofs.Lined.{lines_more}
 use Rattle.lines.proofs.put_items.Goals as goal
 
-pub loop-i-init : goal.loop-i-init
-loop-i-init c = listing_begun _ _ _
+pub loop-item-init : goal.loop-item-init
+unfolding lines_of
+loop-item-init c = record { put = pushed_none c.args.out.now (omega (arith, c.requires)); short = omega arith }
 
-pub shape_of-out-in_default : goal.shape_of-out-in_default
-shape_of-out-in_default c = c.loop-i.invariant.put.kept
+pub put_item-requires : goal.put_item-requires
+put_item-requires c =
+    let fat = c.args.fat.now in
+    let so_far = c.loop-item.yielded in
+    let more : length so_far < length (prettify_of fat) =
+    (YieldsList-turn (YieldsList-from_first (λ x. x) (λ s. prettify_of s.0.now) (prettify_of fat) (search rules))
+    so_far c.loop-item.item-iterator c.loop-item.yielded_by c.next.result c.next.new.self c.in-Some.item c.in-Some.is c.next.ensures.steps).0 in
+    let h = c.loop-item.invariant in
+    omega (arith, c.requires, more, items_few fat, h.put.put.kept, h.short)
 
-pub returns-in_default : goal.returns-in_default
-returns-in_default c =
-    listing_done c.loop-i.invariant c.prettify-item.ensures c.in_default.is
-
-pub put_item-at-requires : goal.put_item-at-requires
-put_item-at-requires c =
-    listing_room c.loop-i.invariant c.requires c.prettify-item.ensures c.in-Next.is
-
-pub loop-i-smaller : goal.loop-i-smaller
-loop-i-smaller c =
-    omega (arith, item_ahead _ _ c.prettify-item.ensures c.in-Next.is)
-
-pub loop-i-preserved : goal.loop-i-preserved
-loop-i-preserved c =
-    listing_on c.loop-i.invariant c.requires c.prettify-item.ensures c.in-Next.is c.put_item-at.ensures
-
-pub shape_of-out : goal.shape_of-out
-shape_of-out c = c.loop-i.invariant.put.kept
-
-pub returns : goal.returns
-returns c = listing_over c.loop-i.invariant c.loop-i-test.false
+pub loop-item-preserved : goal.loop-item-preserved
+loop-item-preserved c =
+    let h = c.loop-item.invariant in
+    record {
+      put = rw (← lines_more c.loop-item.yielded c.in-Some.item) (pushed_after h.put c.put_item.ensures.put);
+      short = omega (arith, h.short, c.put_item.ensures.short, length-append c.loop-item.yielded (c.in-Some.item ∷ []));
+    }

@@ -1,11 +1,11 @@
--- `put_items` meets its contract: what is put, and the lines of the items from i on, are all the lines. Assumes nothing.
-use Prim.Native.Nat.{◌-◌}
-use lib.ListN.{length}
-use Rattle.lines.proofs.Puts.{Listing}
+-- `put_items` meets its contract: the lines of the items so far are put, each of at most 27 bytes. Assumes nothing.
+use Rattle.std.proofs.Common.{◌+◌, ◌*◌, ◌≤◌, length}
+use Rattle.texts.specs.Text.{Pushed}
+use Rattle.lines.specs.Lines.{lines_of}
 use Rattle.lines.proofs.put_items.Given as goal
 
-abbrev pub invariant-loop-i : goal.invariant-loop-i
-invariant-loop-i l = Listing l.initial.out l.from l.fat l.i l.at l.out
-
-abbrev pub decreases-loop-i : goal.decreases-loop-i
-decreases-loop-i l = length l.fat - l.i
+abbrev pub invariant-loop-item : goal.invariant-loop-item
+invariant-loop-item l = record {
+  put : Pushed l.initial.out (lines_of l.yielded) l.out;
+  short : l.out.len ≤ l.initial.out.len + 27 * length l.yielded;
+}

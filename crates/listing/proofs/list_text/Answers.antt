@@ -1,28 +1,7 @@
--- `list_text` meets its contract: each of the three answers is the listing in its case, and 127 sectors leave room. Assumes nothing.
-use mathlib.Core.Path.{sym}
-use native.Mathlib.Omega.{arith}
-use lib.Seq.{length-take-le}
-use Rattle.listing.proofs.Opened.{long_listing, refused_listing, accepted_within, accepted_short, accepted_listing}
+-- `list_text` meets its contract: what `put_listing` puts begins at the front. Assumes nothing.
+use Rattle.std.proofs.Common.{rules}
+use Rattle.texts.proofs.Puts.{put_begun}
 use Rattle.listing.proofs.list_text.Goals as goal
 
-pub returns-then-image-gt-MOST : goal.returns-then-image-gt-MOST
-returns-then-image-gt-MOST c = long_listing _ c.if-image-gt-MOST.true c.put_refused.ensures
-
-pub returns-in_default : goal.returns-in_default
-returns-in_default c =
-    refused_listing _ c.if-image-gt-MOST.false c.open_fat-verdict.ensures c.in_default.is c.number.ensures c.put_refused-in_default.ensures
-
-pub slice_bounds-fat-end : goal.slice_bounds-fat-end
-slice_bounds-fat-end c = accepted_within c.open_fat-verdict.ensures c.in-Accepted.is
-
-pub slice_bounds-put_listed-end-2 : goal.slice_bounds-put_listed-end-2
-slice_bounds-put_listed-end-2 c =
-    sym (length-take-le _ _ (accepted_within c.open_fat-verdict.ensures c.in-Accepted.is))
-
-pub put_listed-requires : goal.put_listed-requires
-put_listed-requires c =
-    omega (arith, accepted_short c.if-image-gt-MOST.false c.open_fat-verdict.ensures c.in-Accepted.is)
-
 pub returns : goal.returns
-returns c =
-    accepted_listing _ c.if-image-gt-MOST.false c.open_fat-verdict.ensures c.in-Accepted.is c.put_listed.ensures
+returns c = put_begun c.put_listing.ensures c.new-text.ensures.held c.new-text.ensures.none (search rules) c.len.ensures

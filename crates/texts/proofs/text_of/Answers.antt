@@ -1,6 +1,8 @@
 -- `texts::text_of` meets its contract: the text stands at the front of 32 zeros. Assumes nothing.
+use Rattle.std.proofs.Common.{rules}
+use Rattle.texts.proofs.Puts.{put_begun}
 use Rattle.texts.proofs.Texts.{put_written}
 use Rattle.texts.proofs.text_of.Goals as goal
 
 pub returns : goal.returns
-returns c = put_written c.put_sector-len.ensures
+returns c = put_written (put_begun c.push_item.ensures.put c.new-out.ensures.held c.new-out.ensures.none (search rules) c.len-len.ensures)
