@@ -9,11 +9,8 @@ ghost use Rattle.listing.specs.Verdict.{FatOpened};
 use cfb::{Opened, State};
 use header::Validation;
 use lines::{put_listed, put_refused};
-<<<<<<< HEAD
 use tables::TablesMut;
-=======
 use texts::Out;
->>>>>>> 09a4d7d43d9142e574d8b0a46b1fd62faba99752
 
 // The longest image that is listed.
 const MOST: usize = 65536;
@@ -43,19 +40,12 @@ fn put_listing(out: &mut Out, image: &[u8])
         return;
     }
     let mut fat = [0u32; 128];
-<<<<<<< HEAD
     let opened = open_fat(image, &mut fat);
     let Ok(counts) = opened.verdict else {
-        return put_refused(out, opened.number());
-    };
-    put_listed(out, counts.sectors, counts.free, &fat[..counts.sectors])
-=======
-    let verdict = open_fat(image, &mut fat);
-    let Verdict::Accepted { sectors, free } = verdict else {
-        put_refused(out, verdict.number());
+        put_refused(out, opened.number());
         return;
     };
-    put_listed(out, sectors, free, &fat[..sectors]);
+    put_listed(out, counts.sectors, counts.free, &fat[..counts.sectors]);
 }
 
 // Puts the listing of any bytes at the front of `out`, and gives its length; what lies past it stays.
@@ -65,5 +55,4 @@ pub fn list_text(image: &[u8], out: &mut [u8; 4096]) -> usize
     let mut text = Out::new(out);
     put_listing(&mut text, image);
     text.len()
->>>>>>> 09a4d7d43d9142e574d8b0a46b1fd62faba99752
 }
