@@ -8,9 +8,10 @@ use borrow.Author.Tests.{leb-true}
 use borrow.Rule.Slice.PartMut.{put_mid}
 use lib.Dec.{leb}
 use lib.ListN.{length, take, drop}
+use lib.Seq.{take-take}
 use Rattle.lists.specs.Lists.{every, splice, part}
 use Rattle.lists.proofs.Cases.{every_at}
-use Rattle.lists.proofs.Splice.{put_mid_splice, lent_part}
+use Rattle.lists.proofs.Splice.{put_mid_splice}
 use Rattle.words.specs.Words.{le}
 use Rattle.fields.specs.Fields.{offset_of, width_of, number_at}
 
@@ -31,6 +32,7 @@ number_is b i w e = ap (λ (k : ℕ). le k b (offset_of i)) (sym e)
 pub field_stored : (b last xs : List ℕ) (o w at width : ℕ) → o ≡ at → w ≡ width → last ≡ xs → length xs ≡ width → put_mid o (o + w - o) b last ≡ splice b at xs
 field_stored b last xs o w at width eo ew e l = rw (e, eo) (put_mid_splice at (at + w - at) b xs (l ∙ sym ew ∙ omega arith))
 
--- a field that was lent
-pub field_lent : (b : List ℕ) (o w at width : ℕ) → o ≡ at → w ≡ width → take (o + w - o) (drop o b) ≡ part b at width
-field_lent b o w at width eo ew = rw (eo, ew) (lent_part b at width)
+-- the first k bytes of what was lent from a field on
+pub field_begins : (b : List ℕ) (o at k : ℕ) → o ≡ at → at + k ≤ length b → take k (take (length b - o) (drop o b)) ≡ part b at k
+unfolding part
+field_begins b o at k e h = let fits : k ≤ length b - at = omega arith in rw (e, take-take)

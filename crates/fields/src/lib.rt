@@ -126,8 +126,7 @@ pub fn signed(b: &[u8]) -> bool
     requires { 512 ≤ length b.now }
     ensures { result ≡ same_list (part b.now 0 8) signature }
 {
-    let Field { at, width } = row(SIGNATURE);
-    b[at..at + width] == consts::MAGIC_NUMBER[..]
+    b[row(SIGNATURE).at..].starts_with(&consts::MAGIC_NUMBER)
 }
 
 // Stores the signature, whole.
