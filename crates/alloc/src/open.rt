@@ -21,11 +21,11 @@ pub(crate) fn clear(
 )
     ensures { (fat.new ≡ replicate (length fat.old) 0) × (fats.new ≡ replicate (length fats.old) 0) × (difats.new ≡ replicate (length difats.old) 0) × (frees.new ≡ replicate (length frees.old) 0) × (marks.new ≡ replicate (length marks.old) 0) }
 {
-    words::fill32(fat, 0);
-    words::fill32(fats, 0);
-    words::fill32(difats, 0);
-    words::fill32(frees, 0);
-    words::fill(marks, 0);
+    fat.fill(0);
+    fats.fill(0);
+    difats.fill(0);
+    frees.fill(0);
+    marks.fill(0);
 }
 
 // Loads the tables of n sectors into the fronts of lent tables that are zero: 0, or 12 to 18.
@@ -86,7 +86,7 @@ pub(crate) fn load_zeroed(
     if no != 0 {
         return Filled { no, free: 0 };
     }
-    words::fill32(frees, 0);
+    frees.fill(0);
     let free = list_free(&fat[..n], frees);
     Filled { no: 0, free }
 }

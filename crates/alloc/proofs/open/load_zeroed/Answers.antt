@@ -20,8 +20,8 @@ slice_bounds-list_free-end-2 c =
 
 pub list_free-free-requires : goal.list_free-free-requires
 list_free-free-requires c =
-    record { fat_in_bounds = omega (arith, front c, c.fill32.auto.dst, c.fill_tables-no.auto.scratch, c.requires.scratch_long); fat_len_bound = omega (arith, front c, c.requires.few) }
+    record { fat_in_bounds = omega (arith, front c, c.fill.ensures.len, c.fill_tables-no.auto.scratch, c.requires.scratch_long); fat_len_bound = omega (arith, front c, c.requires.few) }
 
 pub returns : goal.returns
 returns c =
-    listed_filled _ _ _ _ _ _ _ _ _ _ _ _ _ _ _ _ _ _ _ c.if-no-ne0.false c.fill_tables-no.ensures c.fill32.ensures c.fill_tables-no.auto.scratch c.list_free-free.ensures
+    listed_filled _ _ _ _ _ _ _ _ _ _ _ _ _ _ _ _ _ _ _ c.if-no-ne0.false c.fill_tables-no.ensures (c.fill.ensures.after (λ y e. e)) c.fill_tables-no.auto.scratch c.list_free-free.ensures
