@@ -24,7 +24,7 @@ pub fn same_read(case: &[u8]) -> bool
     if verdict.number() != number_in(case) {
         return false;
     }
-    let numbered = Version::from_number(words::read32(case, 552));
+    let numbered = Version::from_number(words::read::<4>(case, 552));
     let Numbered::Known(version) = numbered else {
         return false;
     };
@@ -54,7 +54,7 @@ fn written_as(h: Header, buf: &mut [u8], number: u32, after: &[u8]) -> bool
     if verdict.number() != number {
         return false;
     }
-    words::same(buf, after)
+    &*buf == after
 }
 
 // Whether the writer gives the number and the bytes of a W record: the words from 8 on, the bytes from 476 on.
@@ -66,7 +66,7 @@ pub fn same_write(case: &[u8]) -> bool
     if 540 < len {
         return false;
     }
-    let numbered = Version::from_number(words::read32(case, 8));
+    let numbered = Version::from_number(words::read::<4>(case, 8));
     let Numbered::Known(version) = numbered else {
         return false;
     };
@@ -97,7 +97,7 @@ fn line_at(held: &[u8], at: usize, bytes: [u8; 32], len: usize) -> Line
         return Line::Other;
     }
     let end = at + len;
-    if !words::same(&bytes[..len], &held[at..end]) {
+    if bytes[..len] != held[at..end] {
         return Line::Other;
     }
     if held[end] != b'\n' {

@@ -18,7 +18,7 @@ pub returns : goal.returns
 unfolding part
 returns c =
     let case = c.args.case.now in
-    let version = version_at _ c.read32.ensures c.from_number-numbered.ensures c.in-Known.is in
+    let version = version_at _ c.read.ensures c.from_number-numbered.ensures c.in-Known.is in
     λ e.
     read_agrees case version c.length_in-len.ensures c.mode_in.ensures (part_between case 8 c.length_in-len.result) c.read_from-read.ensures
     (sym c.number.ensures ∙ c.if-number-number_in.false) c.number_in.ensures (c.same_header.ensures e ∙ c.header_in.ensures)

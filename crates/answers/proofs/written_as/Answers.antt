@@ -1,5 +1,6 @@
 -- `written_as` meets its contract: the writer's own, over the bytes that `put_before` puts. Assumes nothing.
 use Rattle.std.proofs.Common.{sym, ◌∙◌}
+use Rattle.lists.proofs.Splice.{same_slices}
 use Rattle.records.proofs.Held.{never}
 use Rattle.answers.proofs.Agreed.{written_agrees}
 use Rattle.answers.proofs.written_as.Goals as goal
@@ -11,4 +12,4 @@ pub returns : goal.returns
 returns c =
     let put = c.put_before in
     λ e.
-    written_agrees _ _ put.ensures put.auto.buf c.write_to-verdict.ensures (sym c.number.ensures ∙ c.if-number.false) (sym c.same.ensures ∙ e)
+    written_agrees _ _ put.ensures put.auto.buf c.write_to-verdict.ensures (sym c.number.ensures ∙ c.if-number.false) (sym (c.eq.ensures ∙ same_slices _ _) ∙ e)
