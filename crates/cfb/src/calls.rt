@@ -54,7 +54,7 @@ pub(crate) fn chain_of(
     if !agrees(
         image, s.used, mode, n, s.free, h, fat, fats, difats, frees, marks, ids,
     ) {
-        words::fill32(ids, 0);
+        ids.fill(0);
         return Walked::Refused(19);
     }
     let walked = walk(&fat[..n], start, ids);

@@ -59,14 +59,14 @@ pub(crate) fn change_of(
     }
     let mode = s.mode;
     if !mode.is_strict() {
-        words::fill32(ids, 0);
+        ids.fill(0);
         return Walked::Refused(26);
     }
     if no != 0 {
         return walked;
     }
     if is_marked(marks, start) {
-        words::fill32(ids, 0);
+        ids.fill(0);
         return Walked::Refused(25);
     }
     walked
@@ -112,11 +112,11 @@ pub(crate) fn edit_listed(
     };
     let len = len_of(s);
     if ((len * count) as u64) < seek_of(edit) {
-        words::fill32(ids, 0);
+        ids.fill(0);
         return Walked::Refused(23);
     }
     if no_room(s, lent, more_of(len, count, edit, bytes)) {
-        words::fill32(ids, 0);
+        ids.fill(0);
         return Walked::Refused(24);
     }
     walked

@@ -199,7 +199,7 @@ impl State {
         };
         let s = len_of(self);
         if ((s * count) as u64) < offset {
-            words::fill32(ids, 0);
+            ids.fill(0);
             return Called {
                 answer: Answer::Refused(23),
                 state: self,

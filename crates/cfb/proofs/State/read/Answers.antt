@@ -29,7 +29,7 @@ overflow_mul-s c =
 pub returns-then-s-count : goal.returns-then-s-count
 returns-then-s-count c =
     let passed = goal.at.returns-then-s-count c in
-    reads_past _ _ (tables passed.After-chain_of-walked) _ _ _ _ c.chain_of-walked.ensures _ _ _ c.in-Listed.is _ (past_own _ c.len_of-s.ensures c.if-s-count.true) (c.fill32.ensures ∙ ap (λ (n : ℕ). replicate n 0) c.chain_of-walked.auto.ids)
+    reads_past _ _ (tables passed.After-chain_of-walked) _ _ _ _ c.chain_of-walked.ensures _ _ _ c.in-Listed.is _ (past_own _ c.len_of-s.ensures c.if-s-count.true) (c.fill.ensures.after (λ y e. e) ∙ ap (λ (n : ℕ). replicate n 0) c.chain_of-walked.auto.ids)
 
 pub slice_bounds-read-end : goal.slice_bounds-read-end
 slice_bounds-read-end c =

@@ -42,7 +42,7 @@ returns-then-short-room_of c =
 pub returns-then-not-agrees : goal.returns-then-not-agrees
 returns-then-not-agrees c =
     let passed = goal.at.returns-then-not-agrees c in
-    listed_apart _ _ (tables passed.After-room_of) _ _ (long_enough passed.After-agrees _ (short_is passed.After-room_of)) _ (sym c.agrees.ensures ∙ c.if-not-agrees.true) (c.fill32.ensures ∙ ap (λ (n : ℕ). replicate n 0) (list_kept passed.After-agrees))
+    listed_apart _ _ (tables passed.After-room_of) _ _ (long_enough passed.After-agrees _ (short_is passed.After-room_of)) _ (sym c.agrees.ensures ∙ c.if-not-agrees.true) (c.fill.ensures.after (λ y e. e) ∙ ap (λ (n : ℕ). replicate n 0) (list_kept passed.After-agrees))
 
 pub slice_bounds-walk-end : goal.slice_bounds-walk-end
 slice_bounds-walk-end c =

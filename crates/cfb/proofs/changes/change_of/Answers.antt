@@ -54,7 +54,7 @@ pub returns-then-not-is_strict : goal.returns-then-not-is_strict
 returns-then-not-is_strict c =
     let passed = goal.at.returns-then-not-is_strict c in
     change_refused _ _ (tables passed.After-number_of-no) _ _ 26 _ (refused_mode _ _ (tables passed.After-number_of-no) _ _ (not_11 passed.After-is_strict _ (told passed.After-number_of-no)) (not_19 passed.After-is_strict _ (told passed.After-number_of-no)) (sym c.is_strict.ensures ∙ c.if-not-is_strict.true)) (λ z. omega arith) (λ z. omega arith)
-    (c.fill32.ensures ∙ ap (λ (n : ℕ). replicate n 0) (list_kept passed.After-is_strict))
+    (c.fill.ensures.after (λ y e. e) ∙ ap (λ (n : ℕ). replicate n 0) (list_kept passed.After-is_strict))
 
 pub returns-then-no-ne0 : goal.returns-then-no-ne0
 returns-then-no-ne0 c =
@@ -66,7 +66,7 @@ pub returns-then-is_marked : goal.returns-then-is_marked
 returns-then-is_marked c =
     let passed = goal.at.returns-then-is_marked c in
     change_refused _ _ (tables passed.After-number_of-no) _ _ 25 _ (change_is passed.After-is_marked (told passed.After-number_of-no) (not_11 passed.After-is_strict _ (told passed.After-number_of-no)) (not_19 passed.After-is_strict _ (told passed.After-number_of-no)) ∙ ap (λ (b : Bool). choose b 25 0) c.if-is_marked.true) (λ z. omega arith) (λ z. omega arith)
-    (c.fill32-then-is_marked.ensures ∙ ap (λ (n : ℕ). replicate n 0) (list_kept passed.After-is_strict))
+    (c.fill-then-is_marked.ensures.after (λ y e. e) ∙ ap (λ (n : ℕ). replicate n 0) (list_kept passed.After-is_strict))
 
 pub returns : goal.returns
 returns c =

@@ -21,7 +21,7 @@ overflow_mul-len c = omega (arith, listing_small _ _ _ _ c.requires _ c.in-Liste
 
 pub returns-then-len-count : goal.returns-then-len-count
 returns-then-len-count c =
-    λ l. edit_past _ _ _ _ l _ c.in-Listed.is _ c.len_of-len.ensures _ _ _ (seeks_past _ _ _ c.seek_of.ensures c.if-len-count.true) c.fill32.ensures
+    λ l. edit_past _ _ _ _ l _ c.in-Listed.is _ c.len_of-len.ensures _ _ _ (seeks_past _ _ _ c.seek_of.ensures c.if-len-count.true) (c.fill.ensures.after (λ y e. e))
 
 pub more_of-requires : goal.more_of-requires
 more_of-requires c =
@@ -35,7 +35,7 @@ no_room-requires c =
 pub returns-then-no_room : goal.returns-then-no_room
 returns-then-no_room c =
     let passed = goal.at.returns-then-no_room c in
-    λ l. edit_full _ _ _ _ l _ c.in-Listed.is _ c.len_of-len.ensures _ _ _ (seeks_within _ _ _ c.seek_of.ensures c.if-len-count.false) (sym (room_is passed.After-no_room) ∙ c.if-no_room.true) c.fill32-then-no_room.ensures
+    λ l. edit_full _ _ _ _ l _ c.in-Listed.is _ c.len_of-len.ensures _ _ _ (seeks_within _ _ _ c.seek_of.ensures c.if-len-count.false) (sym (room_is passed.After-no_room) ∙ c.if-no_room.true) (c.fill-then-no_room.ensures.after (λ y e. e))
 
 pub returns : goal.returns
 returns c =
