@@ -87,7 +87,7 @@ pub fn rasuvelk_open_chain(
 {
     let lent = *state;
     if !holds_state(lent) {
-        words::fill32(ids, 0);
+        ids.fill(0);
         *answer = [0u64; 3];
         return 19;
     }
@@ -118,7 +118,7 @@ pub fn rasuvelk_read_chain(
 {
     let lent = *state;
     if !holds_state(lent) {
-        words::fill32(ids, 0);
+        ids.fill(0);
         *answer = [0u64; 3];
         return 19;
     }
@@ -151,7 +151,7 @@ fn change_chain(
 {
     let lent = *state;
     if !holds_state(lent) {
-        words::fill32(ids, 0);
+        ids.fill(0);
         *answer = [0u64; 3];
         return 19;
     }

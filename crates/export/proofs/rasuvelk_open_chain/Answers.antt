@@ -5,7 +5,7 @@ use Rattle.export.proofs.rasuvelk_open_chain.Goals as goal
 
 pub returns-then-not-holds_state : goal.returns-then-not-holds_state
 returns-then-not-holds_state c =
-    open_refused _ _ _ _ _ _ _ c.holds_state.ensures (c.if-not-holds_state.true) c.fill32.ensures
+    open_refused _ _ _ _ _ _ _ c.holds_state.ensures (c.if-not-holds_state.true) (c.fill.ensures.after (λ y e. e))
 
 pub state_in-held-requires : goal.state_in-held-requires
 state_in-held-requires c = sym c.holds_state.ensures ∙ c.if-not-holds_state.false
