@@ -30,7 +30,7 @@ pub fn zero_from(xs: &mut [u32], from: usize)
     ensures { xs.new ≡ padded (take from xs.old) (length xs.old) }
 {
     if from < xs.len() {
-        words::fill32(&mut xs[from..], 0);
+        xs[from..].fill(0);
     }
 }
 
