@@ -50,7 +50,7 @@ pub fn count_pointers(fat: &[u32], counts: &mut [u32])
     requires { CountsLent (length fat.now) (length counts.old) }
     ensures { counts.new ≡ pointers_of fat.now }
 {
-    words::fill32(counts, 0);
+    counts.fill(0);
     let fours = fat.len() / 4;
     let mut q = 0;
     while q < fours {

@@ -7,8 +7,8 @@ use Rattle.points.proofs.points.count_pointers.Goals as goal
 
 pub loop-q-init : goal.loop-q-init
 loop-q-init c =
-    let f = c.fill32 in
-    (omega arith, refl, counting_none _ _ _ c.requires.few f.ensures c.requires.each (f.auto.dst ∙ c.requires.each))
+    let f = c.fill in
+    (omega arith, refl, counting_none _ _ _ c.requires.few (f.ensures.after (λ y e. e)) c.requires.each (f.ensures.len ∙ c.requires.each))
 
 pub overflow_mul-q : goal.overflow_mul-q
 overflow_mul-q c = omega (arith, c.loop-q.invariant.1, c.requires.few)
