@@ -50,7 +50,7 @@ fn zero_from(sector: &mut [u8], x: usize)
     requires { x ≤ length sector.old }
     ensures { sector.new ≡ splice sector.old x (replicate (length sector.old - x) 0) }
 {
-    words::fill(&mut sector[x..], 0);
+    sector[x..].fill(0);
 }
 
 // Zeros the bytes of sector id of an image from x on.
