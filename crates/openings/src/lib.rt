@@ -19,7 +19,7 @@ fn put_entries(case: &[u8], sector: &mut [u8])
     requires { (length case.now ≡ 1024) × (length sector.old ≡ 512) }
     ensures { sector.new ≡ entries_in case.now }
 {
-    words::fill(sector, 0xff);
+    sector.fill(0xff);
     words::copy(&case[520..616], sector);
 }
 
@@ -28,7 +28,7 @@ fn put_sectors(case: &[u8], place: usize, image: &mut [u8])
     requires { (length case.now ≡ 1024) × (place ≡ place_in case.now) × (place < 24) × (length image.old ≡ 12800) }
     ensures { image.new ≡ sector_bytes case.now }
 {
-    words::fill(image, 0);
+    image.fill(0);
     words::copy(&case[8..520], image);
     let at = 512 * (place + 1);
     let end = at + 512;
@@ -69,7 +69,7 @@ fn same_tables(
     if !same_table(difats, &case[928..1024]) {
         return false;
     }
-    words::same(marks, &case[808..832])
+    marks == &case[808..832]
 }
 
 // Whether an opening's number and counts are those of the record: the number in byte 4, the FREE sectors in byte 6, all sectors in byte 7.
@@ -144,7 +144,7 @@ fn record_says(
         return false;
     }
     let mut ids = [RUBBISH; 24];
-    let start = words::read32(case, 616);
+    let start = words::read::<4>(case, 616);
     let called = state.open_chain(image, fat, fats, difats, frees, marks, &mut ids, start);
     let answer = called.answer;
     same_told(answer, &ids, case)

@@ -14,7 +14,7 @@ pub fn length_in(case: &[u8]) -> usize
     requires { length case.now ≡ 1024 }
     ensures { result ≡ length_in case.now }
 {
-    words::read16(case, 2) as usize
+    words::read::<2>(case, 2) as usize
 }
 
 // The answer's number: byte 4.
@@ -22,7 +22,7 @@ pub fn number_in(case: &[u8]) -> u32
     requires { length case.now ≡ 1024 }
     ensures { result ≡ number_in case.now }
 {
-    case[4] as u32
+    u32::from(case[4])
 }
 
 // The mode: byte 1, where 0 is permissive.
@@ -30,7 +30,7 @@ pub fn mode_in(case: &[u8]) -> Validation
     requires { length case.now ≡ 1024 }
     ensures { result ≡ mode_in case.now }
 {
-    layout::mode_of(case[1] as u32)
+    layout::mode_of(u32::from(case[1]))
 }
 
 // Takes as many numbers of four bytes as `numbers` has places.
@@ -38,10 +38,8 @@ pub fn take_numbers(held: &[u8], numbers: &mut [u32])
     requires { 4 * length numbers.old ≤ length held.now }
     ensures { numbers.new ≡ numbers_in held.now (length numbers.old) }
 {
-    let mut i = 0;
-    while i < numbers.len() {
-        numbers[i] = words::read32(held, 4 * i);
-        i += 1;
+    for (i, number) in numbers.iter_mut().enumerate() {
+        *number = words::read::<4>(held, 4 * i);
     }
 }
 
@@ -50,7 +48,7 @@ pub fn header_in(version: Version, held: &[u8]) -> Header
     requires { length held.now ≡ 468 }
     ensures { result ≡ header_in version held.now }
 {
-    let mut words = [0u32; 117];
+    let mut words = [0; 117];
     take_numbers(held, &mut words);
     layout::header_with(version, words)
 }

@@ -6,4 +6,4 @@ use Rattle.openings.proofs.put_entries.Goals as goal
 pub returns : goal.returns
 unfolding part
 returns c =
-    entries_put _ c.requires.1 c.fill.ensures c.copy.ensures
+    entries_put _ c.requires.1 (c.fill.ensures.after (λ y e. e)) c.copy.ensures

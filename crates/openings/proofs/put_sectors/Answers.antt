@@ -6,4 +6,4 @@ use Rattle.openings.proofs.put_sectors.Goals as goal
 pub returns : goal.returns
 unfolding part
 returns c =
-    sectors_put _ c.args.place c.requires.0 c.requires.1 c.requires.3 c.fill.ensures c.copy.ensures c.put_entries.ensures
+    sectors_put _ c.args.place c.requires.0 c.requires.1 c.requires.3 (c.fill.ensures.after (λ y e. e)) c.copy.ensures c.put_entries.ensures

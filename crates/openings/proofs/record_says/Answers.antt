@@ -21,4 +21,4 @@ pub returns : goal.returns
 unfolding start_in lent_ids
 returns c =
     λ e.
-    Says.chains c.if-kind-ne67.false c.if-number-ne0.false (chain_told _ c.read32-start.ensures c.open_chain-called.ensures (c.same_told.ensures e))
+    Says.chains c.if-kind-ne67.false c.if-number-ne0.false (chain_told _ c.read-start.ensures c.open_chain-called.ensures (c.same_told.ensures e))

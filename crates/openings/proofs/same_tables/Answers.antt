@@ -1,6 +1,7 @@
 -- `same_tables` meets its contract: each table is compared with its place in the record. Assumes nothing.
 use mathlib.Core.Path.{◌∙◌, sym}
 use Rattle.lists.specs.Lists.{part}
+use Rattle.lists.proofs.Splice.{same_slices}
 use Rattle.records.proofs.Held.{never}
 use Rattle.openings.proofs.Opened.{tables_same_lem}
 use Rattle.openings.proofs.same_tables.Goals as goal
@@ -22,4 +23,4 @@ unfolding part
 returns c =
     λ e.
     tables_same_lem _ (c.same_table.ensures (c.if-not-same_table.false)) (c.same_table-2.ensures (c.if-not-same_table-2.false))
-    (c.same_table-3.ensures (c.if-not-same_table-3.false)) (c.same_table-4.ensures (c.if-not-same_table-4.false)) (sym c.same.ensures ∙ e)
+    (c.same_table-3.ensures (c.if-not-same_table-3.false)) (c.same_table-4.ensures (c.if-not-same_table-4.false)) (sym (c.eq.ensures ∙ same_slices _ _) ∙ e)
