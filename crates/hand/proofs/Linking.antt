@@ -1,5 +1,5 @@
 -- The laws of a sector linked behind a chain's last one, and of a chain with one sector more. Assumes nothing.
-use Prim.Native.Nat.{ℕ, suc, ◌+◌, ◌-◌, ◌*◌, ◌/◌, ◌≤◌, ◌<◌}
+use Prim.Native.Nat.{ℕ, suc, ◌+◌, ◌-◌, ◌≤◌, ◌<◌}
 use mathlib.Core.Path.{◌≡◌, refl, ◌∙◌, sym, ap}
 use mathlib.Core.List.{List}
 use mathlib.Core.Logic.{⊎_elim, ◌≢◌}
@@ -8,13 +8,12 @@ use borrow.Author.Tests.{eq-eqb, ne_eqb}
 use lib.ListN.{length, get_or, set, length-set}
 use lib.Seq.{get_or-set_same, get_or-set_other}
 use Rattle.lists.proofs.Cases.{same_or}
-use Rattle.sectors.specs.Sectors.{start_of, per_sector}
 use Rattle.fat.specs.Lists.{most}
 use Rattle.disk.specs.Disk.{one_more, count_after}
 use Rattle.disk.proofs.Fitting.{one_more_grows, count_none, count_more, count_grows}
 use Rattle.hand.specs.Hand.{Hand, Chain, point, taken_id, take_sector, linked, extend_one}
 use Rattle.hand.specs.Fits.{FitsHand, FitsStock, FitsLast, FitsMore}
-use Rattle.hand.proofs.Pointing.{hand_of, HandLong, long_none, long_then, point_fits, point_inside, point_long, point_counts}
+use Rattle.hand.proofs.Pointing.{HandLong, long_none, long_then, point_fits, point_inside, point_long, point_counts}
 use Rattle.hand.proofs.Taking.{stock_of, take_sectors_new, take_sectors_same, take_sectors_grow, take_free, taken_below, take_fits, take_long}
 
 -- a chain of none, and one with a last sector
@@ -25,15 +24,6 @@ linked_none S h ids count id e = rw (eq-eqb count 0 e)
 pub linked_last : (S : ℕ) (h : Hand) (ids : List ℕ) (count id : ℕ) → count ≢ 0 → linked S h ids count id ≡ point S h (get_or ids (count - 1) 0) id
 unfolding linked
 linked_last S h ids count id e = rw (ne_eqb count 0 e)
-
--- the same, whatever else is in hand
-pub linked_of : (S n : ℕ) (image fat fats marks ids : List ℕ) (count id : ℕ) (image' fat' marks' : List ℕ) → count ≢ 0
-    → ((difats frees : List ℕ) (free : ℕ)
-    → hand_of n image' fat' fats difats frees free marks' ≡ point S (hand_of n image fat fats difats frees free marks) (get_or ids (count - 1) 0) id)
-    → (difats frees : List ℕ) (free : ℕ)
-    → hand_of n image' fat' fats difats frees free marks' ≡ linked S (hand_of n image fat fats difats frees free marks) ids count id
-linked_of S n image fat fats marks ids count id image' fat' marks' e p difats frees free =
-    p difats frees free ∙ sym (linked_last S (hand_of n image fat fats difats frees free marks) ids count id e)
 
 -- the last sector of a chain in hand can be made to point elsewhere
 pub last_fits : (S R : ℕ) (h : Hand) (ids : List ℕ) (count : ℕ) → FitsHand S R h → count ≤ length ids → (0 < count → get_or ids (count - 1) 0 < h.disk.sectors)
@@ -48,14 +38,6 @@ last_fits S R h ids count f l b =
       last_sector = λ e. (point_inside S R h (get_or ids (count - 1) 0) f (b e)).1.0.1;
       last_inside = λ e. (point_inside S R h (get_or ids (count - 1) 0) f (b e)).1.1;
     }
-
-pub last_inside : (S n image fat : ℕ) (fats : List ℕ) (marks : ℕ) (ids : List ℕ) (count : ℕ) → FitsLast S n image fat fats marks ids count → count ≢ 0
-    → ((S ≡ 4 * per_sector S) × (1 ≤ per_sector S) × (n ≤ marks))
-    × (((get_or ids (count - 1) 0 < fat) × (get_or ids (count - 1) 0 / per_sector S < length fats))
-    × (start_of S (get_or fats (get_or ids (count - 1) 0 / per_sector S) 0) + S ≤ image))
-last_inside S n image fat fats marks ids count f e =
-    let some : 0 < count = omega (arith, e) in
-    ((f.entries, f.some, f.marks_long), ((f.last_fat some, f.last_sector some), f.last_inside some))
 
 -- linking leaves what the code asks for, how many there are, and every length
 module _ (S : ℕ) (h : Hand) (ids : List ℕ) (count id : ℕ) where
