@@ -1,14 +1,13 @@
 -- The laws of a sector linked behind a chain's last one, and of a chain with one sector more. Assumes nothing.
 use Prim.Native.Nat.{ℕ, suc, ◌+◌, ◌-◌, ◌≤◌, ◌<◌}
-use mathlib.Core.Path.{◌≡◌, refl, ◌∙◌, sym, ap}
+use mathlib.Core.Path.{◌≡◌, refl, ◌∙◌, sym}
 use mathlib.Core.List.{List}
 use mathlib.Core.Logic.{⊎_elim, ◌≢◌}
 use native.Mathlib.Omega.{arith}
 use borrow.Author.Tests.{eq-eqb, ne_eqb}
-use lib.ListN.{length, get_or, set, length-set}
+use lib.ListN.{length, get_or, length-set}
 use lib.Seq.{get_or-set_same, get_or-set_other}
 use Rattle.lists.proofs.Cases.{same_or}
-use Rattle.fat.specs.Lists.{most}
 use Rattle.disk.specs.Disk.{one_more, count_after}
 use Rattle.disk.proofs.Fitting.{one_more_grows, count_none, count_more, count_grows}
 use Rattle.hand.specs.Hand.{Hand, Chain, point, taken_id, take_sector, linked, extend_one}
@@ -66,14 +65,6 @@ module _ (S : ℕ) (h : Hand) (ids : List ℕ) (count id : ℕ) where
 pub record ChainLong (c e : Chain) : Type 0 where
   pub hand : HandLong c.hand e.hand
   pub ids_same : length e.ids ≡ length c.ids
-
--- a chain with one sector more, by its parts
-pub extended_of : (S : ℕ) (h taken after : Hand) (ids : List ℕ) (count id : ℕ) → (id ≡ taken_id S h) × (taken ≡ take_sector S h) → after ≡ linked S taken ids count id
-    → record { hand = after; ids = set ids count id; count = suc count } ≡ extend_one S (record { hand = h; ids = ids; count = count })
-unfolding extend_one
-extended_of S h taken after ids count id t l =
-    ap (λ (k : Hand). record { hand = k; ids = set ids count id; count = suc count }) (l ∙ ap (λ (k : Hand). linked S k ids count id) t.1)
-    ∙ ap (λ (i : ℕ). record { hand = linked S (take_sector S h) ids count i; ids = set ids count i; count = suc count }) t.0
 
 -- how many there are then
 pub one_count : (S : ℕ) (c : Chain) → (extend_one S c).count ≡ suc c.count
@@ -142,9 +133,6 @@ module _ {S R m : ℕ} {c : Chain} (f : FitsMore S R (suc m) c) where
       (λ (e : c.hand.free ≡ 0). omega (arith, e, f.fits.few, f.fits.ids_long, more_room e, one_more_grows S c.hand.disk.sectors))
       (λ (e : c.hand.free ≢ 0). omega (arith, e, f.fits.few, f.fits.ids_long, f.fits.fits.disk.inside))
       (same_or c.hand.free 0)
-
-  pub more_small : c.count ≤ most
-  more_small = omega (arith, f.fits.few, f.fits.fits.disk.inside, f.fits.fits.disk.few)
 
   pub more_last : 0 < c.count → get_or c.ids (c.count - 1) 0 < (take_sector S c.hand).disk.sectors
   more_last e =

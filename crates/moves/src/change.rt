@@ -23,9 +23,8 @@ pub enum Edit {
 pub fn zero_from(xs: &mut [u32], from: usize)
     ensures { xs.new ≡ padded (take from xs.old) (length xs.old) }
 {
-    if from < xs.len() {
-        words::fill32(&mut xs[from..], 0);
-    }
+    let kept = from.min(xs.len());
+    xs[kept..].fill(0);
 }
 
 // Ends the chain of count ids behind its first m, if it has as many, and frees the rest in chain order.
