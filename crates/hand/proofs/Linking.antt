@@ -1,12 +1,12 @@
 -- The laws of a sector linked behind a chain's last one, and of a chain with one sector more. Assumes nothing.
 use Prim.Native.Nat.{ℕ, suc, ◌+◌, ◌-◌, ◌≤◌, ◌<◌}
-use mathlib.Core.Path.{◌≡◌, refl, ◌∙◌, sym}
+use mathlib.Core.Path.{◌≡◌, refl, ◌∙◌, sym, ap}
 use mathlib.Core.List.{List}
 use mathlib.Core.Logic.{⊎_elim, ◌≢◌}
 use native.Mathlib.Omega.{arith}
 use borrow.Author.Tests.{eq-eqb, ne_eqb}
-use lib.ListN.{length, get_or, length-set}
-use lib.Seq.{get_or-set_same, get_or-set_other}
+use lib.ListN.{length, get_or, take, length-set}
+use lib.Seq.{get_or-set_same, get_or-set_other, get_or-take, length-take-le}
 use Rattle.lists.proofs.Cases.{same_or}
 use Rattle.disk.specs.Disk.{one_more, count_after}
 use Rattle.disk.proofs.Fitting.{one_more_grows, count_none, count_more, count_grows}
@@ -23,6 +23,14 @@ linked_none S h ids count id e = rw (eq-eqb count 0 e)
 pub linked_last : (S : ℕ) (h : Hand) (ids : List ℕ) (count id : ℕ) → count ≢ 0 → linked S h ids count id ≡ point S h (get_or ids (count - 1) 0) id
 unfolding linked
 linked_last S h ids count id e = rw (ne_eqb count 0 e)
+
+-- the last of the first count ids, where there is one
+pub last_linked : (S : ℕ) (h : Hand) (ids : List ℕ) (count id last : ℕ) → count ≤ length ids → 0 < length (take count ids)
+    → last ≡ get_or (take count ids) (length (take count ids) - 1) 0 → point S h last id ≡ linked S h ids count id
+last_linked S h ids count id last l some e =
+    let k : length (take count ids) ≡ count = length-take-le count ids l in
+    let at : last ≡ get_or ids (count - 1) 0 = e ∙ ap (λ (n : ℕ). get_or (take count ids) (n - 1) 0) k ∙ get_or-take count ids (count - 1) 0 (omega (arith, some, k)) in
+    rw at (sym (linked_last S h ids count id (omega (arith, some, k))))
 
 -- the last sector of a chain in hand can be made to point elsewhere
 pub last_fits : (S R : ℕ) (h : Hand) (ids : List ℕ) (count : ℕ) → FitsHand S R h → count ≤ length ids → (0 < count → get_or ids (count - 1) 0 < h.disk.sectors)

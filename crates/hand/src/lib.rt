@@ -69,8 +69,7 @@ pub fn link_last(hand: &mut Hand<'_, '_>, ids: &[u32], count: usize, id: u32)
     requires { FitsLast hand.old.len hand.old.sectors (length hand.old.image.now) (length hand.old.tables.now.fat.now) hand.old.tables.now.fats.now (length hand.old.tables.now.marks.now) ids.now count }
     ensures { HandBecomes hand.old hand.new (linked hand.old.len (hand_in hand.old) ids.now count id) }
 {
-    if count == 0 {
-        return;
+    if let Some(last) = ids[..count].last() {
+        point(hand, *last as usize, id);
     }
-    point(hand, ids[count - 1] as usize, id);
 }

@@ -13,7 +13,7 @@ use room::{sectors_for, sectors_over, sectors_past};
 use stores::{write as write_bytes, zero_tail};
 
 // What is asked of a chain (document 01, Write and Resize): a buffer's bytes from an offset on, or a new length.
-#[derive(Clone, Copy)]
+#[derive(Clone, Copy, Debug, PartialEq, Eq)]
 pub enum Edit {
     Write(u64),
     Resize(u64),
@@ -79,7 +79,13 @@ fn store(image: &mut [u8], s: usize, ids: &[u32], had: usize, count: usize, edit
 
 // Makes an edit of the chain of count ids, and returns how many the chain has then: sectors are taken for what it asks for more, or
 // the tail that a resize leaves is freed; then its bytes are stored.
-pub fn change(hand: &mut Hand<'_, '_>, ids: &mut [u32], count: usize, edit: Edit, buf: &[u8]) -> usize
+pub fn change(
+    hand: &mut Hand<'_, '_>,
+    ids: &mut [u32],
+    count: usize,
+    edit: Edit,
+    buf: &[u8],
+) -> usize
     requires { FitsEdit hand.old.len (room_of hand.old.len (length hand.old.image.now)) edit (length buf.now) (chain_in hand.old ids.old count) }
     ensures { ChainBecomes hand.old hand.new ids.new result (edited hand.old.len (chain_in hand.old ids.old count) edit buf.now) }
 {

@@ -1,6 +1,5 @@
 use Rattle.std.proofs.Common.{rules}
 use Rattle.hand.specs.Hand.{marked}
-
 use Rattle.hand.proofs.set_mark.Goals as goal
 
 pub returns-then-i-hand : goal.returns-then-i-hand

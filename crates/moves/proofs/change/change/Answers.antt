@@ -16,9 +16,9 @@ pub store-requires : goal.store-requires
 store-requires c =
     let fits : Fitted c.args.hand.now c.if-count-need.hand c.args.ids.now c.if-count-need.ids c.args.count c.need_of-need.result
     = elim c.if-count-need.branch [
-        then-count-need w ↦ rw (w.hand-is, w.ids-is) (grown_fitted _ w.if-count-need.true w.extend_by.ensures)
-        | else-count-need w ↦ rw (w.hand-is, w.ids-is) (cut_fitted _ w.if-count-need.false w.shrink.ensures)
-      ] in
+      | then-count-need w ↦ rw (w.hand-is, w.ids-is) (grown_fitted _ w.if-count-need.true w.extend_by.ensures)
+      | else-count-need w ↦ rw (w.hand-is, w.ids-is) (cut_fitted _ w.if-count-need.false w.shrink.ensures)
+    ] in
     edit_storable _ _ _ _ _ c.requires _ c.need_of-need.ensures _ fits.chain
 
 pub returns : goal.returns
@@ -26,7 +26,7 @@ unfolding with_image
 returns c =
     let fits : Fitted c.args.hand.now c.if-count-need.hand c.args.ids.now c.if-count-need.ids c.args.count c.need_of-need.result
     = elim c.if-count-need.branch [
-        then-count-need w ↦ rw (w.hand-is, w.ids-is) (grown_fitted _ w.if-count-need.true w.extend_by.ensures)
-        | else-count-need w ↦ rw (w.hand-is, w.ids-is) (cut_fitted _ w.if-count-need.false w.shrink.ensures)
-      ] in
+      | then-count-need w ↦ rw (w.hand-is, w.ids-is) (grown_fitted _ w.if-count-need.true w.extend_by.ensures)
+      | else-count-need w ↦ rw (w.hand-is, w.ids-is) (cut_fitted _ w.if-count-need.false w.shrink.ensures)
+    ] in
     edited_on _ _ c.requires c.need_of-need.ensures fits (search rules) refl c.store.ensures
