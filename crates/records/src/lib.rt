@@ -23,7 +23,7 @@ pub fn number_in(case: &[u8]) -> u32
     requires { length case.now ≡ 1024 }
     ensures { result ≡ number_in case.now }
 {
-    case[4] as u32
+    u32::from(case[4])
 }
 
 // The mode: byte 1, where 0 is permissive.
@@ -31,7 +31,7 @@ pub fn mode_in(case: &[u8]) -> Validation
     requires { length case.now ≡ 1024 }
     ensures { result ≡ mode_in case.now }
 {
-    layout::mode_of(case[1] as u32)
+    layout::mode_of(u32::from(case[1]))
 }
 
 // Takes as many numbers of four bytes as `numbers` has places.
