@@ -4,6 +4,7 @@
 ghost use Rattle.std.specs.Prelude.{◌≡◌, true, ◌*◌, ◌≤◌, length};
 ghost use Rattle.records.specs.Records.{length_in, number_in, mode_in, numbers_in, header_in};
 
+use agree::alike;
 use header::{Header, Validation, Version};
 
 // The bytes of a record.
@@ -14,7 +15,7 @@ pub fn length_in(case: &[u8]) -> usize
     requires { length case.now ≡ 1024 }
     ensures { result ≡ length_in case.now }
 {
-    words::read::<2>(case, 2) as usize
+    words::read16(case, 2) as usize
 }
 
 // The answer's number: byte 4.
@@ -38,8 +39,10 @@ pub fn take_numbers(held: &[u8], numbers: &mut [u32])
     requires { 4 * length numbers.old ≤ length held.now }
     ensures { numbers.new ≡ numbers_in held.now (length numbers.old) }
 {
-    for (i, number) in numbers.iter_mut().enumerate() {
-        *number = words::read::<4>(held, 4 * i);
+    let mut i = 0;
+    while i < numbers.len() {
+        numbers[i] = words::read32(held, 4 * i);
+        i += 1;
     }
 }
 
@@ -48,7 +51,7 @@ pub fn header_in(version: Version, held: &[u8]) -> Header
     requires { length held.now ≡ 468 }
     ensures { result ≡ header_in version held.now }
 {
-    let mut words = [0; 117];
+    let mut words = [0u32; 117];
     take_numbers(held, &mut words);
     layout::header_with(version, words)
 }
@@ -57,5 +60,5 @@ pub fn header_in(version: Version, held: &[u8]) -> Header
 pub fn same_header(a: Header, b: Header) -> bool
     ensures { result ≡ true → a ≡ b }
 {
-    a == b
+    alike::same_header(a, b)
 }
