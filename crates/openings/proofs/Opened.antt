@@ -10,7 +10,8 @@ use Rattle.lists.proofs.Splice.{length_part, length_splice, put_mid_splice}
 use Rattle.header.specs.declared.Validation.{Validation}
 use Rattle.alloc.specs.Opening.{Tables, shortest, open_no}
 use Rattle.alloc.specs.Opened.{tables_left}
-use Rattle.cfb.specs.Face.{number_of, tables_of, state_of, Opens}
+use Rattle.consts.specs.Refusals.{ends_with}
+use Rattle.cfb.specs.Face.{tables_of, state_of, Opens}
 use Rattle.cfb.specs.Calls.{chain_no, told_by, ChainOpens}
 use Rattle.cfb.specs.declared.State.{State}
 use Rattle.cfb.specs.declared.Opened.{Opened}
@@ -54,7 +55,7 @@ chain_told b {img} {s = s} {t = t} {t' = t'} {r = r} {img' = img'} {ids' = ids'}
 
 -- an opening that gave what the record says
 pub opening_said : (b img : List ℕ) {m : Validation} {r : Opened} {img' : List ℕ} {t' : Tables} {no : ℕ} → m ≡ mode_in b → Opens m img (length img) lent_tables r img' t'
-    → no ≡ number_of r.verdict → Says b img no r.state t' → OpenedAs b img
+    → no ≡ ends_with r.verdict → Says b img no r.state t' → OpenedAs b img
 opening_said b img {r = r} {img' = img'} {t' = t'} {no = k} e says n given =
     let right : Opens (mode_in b) img (length img) lent_tables r img' t' = rw (← e) says in
     let ended : k ≡ open_no (mode_in b) img (length img) (shortest lent_tables) = n ∙ verdict_number r.verdict _ _ _ right.verdict in

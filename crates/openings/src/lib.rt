@@ -3,13 +3,15 @@
 #![tactic(auto)]
 
 ghost use Rattle.std.specs.Prelude.{◌≡◌, true, ◌<◌, length, get_or};
-ghost use Rattle.alloc.specs.Opening.{Tables};
+ghost use Rattle.tables.specs.Tables.{tables_of};
 ghost use Rattle.cfb.specs.Calls.{told_by};
 ghost use Rattle.records.specs.Records.{numbers_in};
 ghost use Rattle.openings.specs.Openings.{place_in, entries_in, sector_bytes, tables_in, CountedAs, ToldAs, Says, OpenedAs, ImageAgrees};
 
-use cfb::{Answer, State};
+use cfb::{Done, State};
+use consts::refusal::{Refusal, ends_with};
 use records::{RECORD, length_in, mode_in, number_in, take_numbers};
+use tables::{Tables, TablesMut};
 
 // What a lent table of numbers is full of before a call; the marks are full of its byte.
 const RUBBISH: u32 = 0xaaaa_aaaa;
@@ -46,21 +48,14 @@ fn same_table(table: &[u32], held: &[u8]) -> bool
 }
 
 // Whether the tables are those of the record.
-fn same_tables(
-    fat: &[u32],
-    fats: &[u32],
-    difats: &[u32],
-    frees: &[u32],
-    marks: &[u8],
-    case: &[u8; RECORD],
-) -> bool
-    ensures { result ≡ true → ◌≡◌ {A = Tables} (record { fat = fat.now; fats = fats.now; difats = difats.now; frees = frees.now; marks = marks.now }) (tables_in case.now) }
+fn same_tables(tables: Tables<'_>, case: &[u8; RECORD]) -> bool
+    ensures { result ≡ true → tables_of tables.entry ≡ tables_in case.now }
 {
-    same_table(fat, &case[616..712])
-        && same_table(frees, &case[712..808])
-        && same_table(fats, &case[832..928])
-        && same_table(difats, &case[928..1024])
-        && marks == &case[808..832]
+    same_table(tables.fat, &case[616..712])
+        && same_table(tables.frees, &case[712..808])
+        && same_table(tables.fats, &case[832..928])
+        && same_table(tables.difats, &case[928..1024])
+        && tables.marks == &case[808..832]
 }
 
 // Whether an opening's number and counts are those of the record: the number in byte 4, the FREE sectors in byte 6, all sectors in byte 7.
@@ -73,20 +68,20 @@ fn same_counts(number: u32, state: State, case: &[u8; RECORD]) -> bool
 }
 
 // How many ids an answer tells of: none beside a refusal.
-fn ids_told(answer: Answer) -> usize
+fn ids_told(answer: Result<Done, Refusal>) -> usize
     ensures { result ≡ get_or (told_by answer) 1 0 }
 {
     match answer {
-        Answer::Done { ids, .. } => ids,
-        Answer::Refused(_) => 0,
+        Ok(done) => done.ids,
+        Err(_) => 0,
     }
 }
 
 // Whether an answer and the id list beside it are those of the record: the number in byte 4, the count in byte 6, the list from 620 on.
-fn same_told(answer: Answer, ids: &[u32], case: &[u8; RECORD]) -> bool
+fn same_told(answer: Result<Done, Refusal>, ids: &[u32], case: &[u8; RECORD]) -> bool
     ensures { result ≡ true → ToldAs case.now (told_by answer) ids.now }
 {
-    answer.number() == number_in(case)
+    ends_with(&answer) == number_in(case)
         && ids_told(answer) == usize::from(case[6])
         && same_table(ids, &case[620..716])
 }
@@ -98,22 +93,16 @@ fn record_says(
     image: &[u8],
     number: u32,
     state: State,
-    fat: &[u32],
-    fats: &[u32],
-    difats: &[u32],
-    frees: &[u32],
-    marks: &[u8],
+    tables: Tables<'_>,
 ) -> bool
-    ensures { result ≡ true → Says case.now image.now number state (record { fat = fat.now; fats = fats.now; difats = difats.now; frees = frees.now; marks = marks.now }) }
+    ensures { result ≡ true → Says case.now image.now number state (tables_of tables.entry) }
 {
     match case[0] {
-        b'O' => {
-            same_counts(number, state, case) && same_tables(fat, fats, difats, frees, marks, case)
-        }
+        b'O' => same_counts(number, state, case) && same_tables(tables, case),
         b'C' if number == 0 => {
             let mut ids = [RUBBISH; 24];
-            let start = words::read32(case, 616);
-            let called = state.open_chain(image, fat, fats, difats, frees, marks, &mut ids, start);
+            let start = words::read::<4>(case, 616);
+            let called = state.open_chain(image, tables, &mut ids, start);
             same_told(called.answer, &ids, case)
         }
         _ => false,
@@ -124,31 +113,20 @@ fn record_says(
 fn opened_as(case: &[u8; RECORD], image: &[u8]) -> bool
     ensures { result ≡ true → OpenedAs case.now image.now }
 {
-    let mut fat = [RUBBISH; 24];
-    let mut fats = [RUBBISH; 24];
-    let mut difats = [RUBBISH; 24];
-    let mut frees = [RUBBISH; 24];
-    let mut marks = [0xaau8; 24];
-    let opened = State::open(
-        image,
-        image.len(),
-        mode_in(case),
-        &mut fat,
-        &mut fats,
-        &mut difats,
-        &mut frees,
-        &mut marks,
-    );
+    let mut tables = TablesMut {
+        fat: &mut [RUBBISH; 24],
+        fats: &mut [RUBBISH; 24],
+        difats: &mut [RUBBISH; 24],
+        frees: &mut [RUBBISH; 24],
+        marks: &mut [0xaau8; 24],
+    };
+    let opened = State::open(image, image.len(), mode_in(case), &mut tables);
     record_says(
         case,
         image,
-        opened.verdict.number(),
+        opened.number(),
         opened.state,
-        &fat,
-        &fats,
-        &difats,
-        &frees,
-        &marks,
+        tables.as_ref(),
     )
 }
 

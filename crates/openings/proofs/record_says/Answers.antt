@@ -7,4 +7,4 @@ pub returns-in-67 : goal.returns-in-67
 unfolding start_in lent_ids
 returns-in-67 c =
     λ e.
-    Says.chains c.in-67.is c.if-number-eq0.true (chain_told _ c.read32-start.ensures c.open_chain-called.ensures (c.same_told.ensures e))
+    Says.chains c.in-67.is c.if-number-eq0.true (chain_told _ c.read-start.ensures c.open_chain-called.ensures (c.same_told.ensures e))
