@@ -11,7 +11,7 @@ ghost use Rattle.cfb.specs.Calls.{ChainOpens, ChainReads, Reads};
 ghost use Rattle.cfb.specs.Changes.{ChainEdits, ChainWrites, ChainResizes};
 ghost use Rattle.cfb.specs.Face.{no_state, Opens};
 
-use alloc::open::open_tables;
+use alloc::open::{Found, open_tables};
 use calls::{chain_of, len_of};
 use changes::{change_of, done_with, edit_listed};
 use consts::refusal::Refusal;
@@ -111,17 +111,18 @@ impl State {
         ensures opens { Opens mode image.now used (tables_in tables.old) result image.now (tables_in tables.new) }
     {
         match open_tables(image, used, mode, tables) {
-            Ok(found) => Opened {
-                verdict: Ok(Counts {
-                    sectors: found.sectors,
-                    free: found.free,
-                }),
+            Ok(Found {
+                sectors,
+                free,
+                header,
+            }) => Opened {
+                verdict: Ok(Counts { sectors, free }),
                 state: State {
                     mode,
                     used,
-                    sectors: found.sectors,
-                    free: found.free,
-                    header: found.header,
+                    sectors,
+                    free,
+                    header,
                 },
             },
             Err(refusal) => Opened {

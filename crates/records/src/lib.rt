@@ -10,24 +10,21 @@ use header::{Header, Validation, Version};
 pub const RECORD: usize = 1024;
 
 // The length of what a record lends: bytes 2 and 3.
-pub fn length_in(case: &[u8]) -> usize
-    requires { length case.now ≡ 1024 }
+pub fn length_in(case: &[u8; RECORD]) -> usize
     ensures { result ≡ length_in case.now }
 {
     words::read::<2>(case, 2) as usize
 }
 
 // The answer's number: byte 4.
-pub fn number_in(case: &[u8]) -> u32
-    requires { length case.now ≡ 1024 }
+pub fn number_in(case: &[u8; RECORD]) -> u32
     ensures { result ≡ number_in case.now }
 {
     u32::from(case[4])
 }
 
 // The mode: byte 1, where 0 is permissive.
-pub fn mode_in(case: &[u8]) -> Validation
-    requires { length case.now ≡ 1024 }
+pub fn mode_in(case: &[u8; RECORD]) -> Validation
     ensures { result ≡ mode_in case.now }
 {
     layout::mode_of(u32::from(case[1]))
