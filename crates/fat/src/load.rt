@@ -43,13 +43,6 @@ pub fn place_at(image: &[u8], s: usize, n: usize, list: &[u32], difats: &[u32], 
     sectors::entry_at(image, s, difats[past / each] as usize, past % each)
 }
 
-// How many of k places lie past the header.
-pub fn past_header(k: usize) -> usize
-    ensures { result ≡ k - 109 }
-{
-    if k < 109 { 0 } else { k - 109 }
-}
-
 // Lists the sectors of the FAT, as many places of the DIFAT as the list has room for. Whether each
 // is below n.
 pub fn list_fats(
