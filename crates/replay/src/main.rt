@@ -30,28 +30,16 @@ struct Sum {
     differ: u64,
 }
 
-// Whether the library gives the answer that a record holds. What is no record, or of no known kind, differs:
-// `same_image` takes O and C records apart, and refuses any other.
-fn same_answer(case: &[u8]) -> bool
+// Whether the library gives the answer that a record holds. What is of no known kind differs: `same_image` takes O and C
+// records apart, and refuses any other.
+fn same_answer(case: &[u8; RECORD]) -> bool
     ensures { result ≡ true → Agrees case.now }
 {
-    if case.len() != RECORD {
-        return false;
-    }
-    let kind = case[0];
-    match kind {
-        b'R' => {
-            return same_read(case);
-        }
-        b'W' => {
-            return same_write(case);
-        }
-        b'P' => {
-            return same_list(case);
-        }
-        _ => {
-            return same_image(case);
-        }
+    match case[0] {
+        b'R' => same_read(case),
+        b'W' => same_write(case),
+        b'P' => same_list(case),
+        _ => same_image(case),
     }
 }
 

@@ -1,10 +1,6 @@
 -- `same_answer` meets its contract: each kind of record by its own comparison. Assumes nothing.
 use Rattle.replay.specs.Agrees.{Agrees}
-use Rattle.records.proofs.Held.{never}
 use Rattle.replay.proofs.same_answer.Goals as goal
-
-pub returns-then-case-ne-RECORD : goal.returns-then-case-ne-RECORD
-returns-then-case-ne-RECORD c = never
 
 pub returns-in-82 : goal.returns-in-82
 returns-in-82 c = λ e. Agrees.reads c.in-82.is (c.same_read.ensures e)
