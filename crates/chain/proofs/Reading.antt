@@ -7,16 +7,11 @@ use native.Mathlib.Nat.{zero-add}
 use borrow.Rule.Slice.PartMut.{put_mid}
 use lib.ListN.{length, get_or, take, drop}
 use Rattle.lists.specs.Lists.{splice, part}
-use Rattle.lists.proofs.Splice.{length_part, length_splice, splice_nil, splice_next, splice_whole, part_append}
+use Rattle.lists.proofs.Splice.{length_part, length_splice, splice_nil, splice_next, part_append}
 use Rattle.sectors.specs.Sectors.{sector_of}
 use Rattle.chain.specs.Bytes.{chain_bytes, read_count, read_bytes, Readable, ReadLeft}
 use Rattle.chain.proofs.Bytes.{length_chain, chain_place, chain_run, count_fits, count_within}
 use Rattle.chain.proofs.Standing.{Stands, stands_byte, lent_run, back_run}
-
--- a part that is copied over the whole of a list
-pub copied_part : (from out : List ℕ) (x : ℕ) → x + length out ≤ length from → splice out 0 (take (x + length out - x) (drop x from)) ≡ part from x (length out)
-copied_part from out x h =
-    ap (splice out 0) (lent_run from x (length out)) ∙ splice_whole out (part from x (length out)) (length_part from x (length out) h)
 
 -- where the loop stands: done of the count bytes are over the buffer's front
 pub record Reading (S : ℕ) (img ids : List ℕ) (offset : ℕ) (before : List ℕ) (count : ℕ) (buf : List ℕ) (done : ℕ) : Type 0 where

@@ -14,7 +14,7 @@ fn copy_from(sector: &[u8], x: usize, out: &mut [u8])
     ensures { out.new ≡ part sector.now x (length out.old) }
 {
     let end = x + out.len();
-    words::copy(&sector[x..end], out);
+    out.copy_from_slice(&sector[x..end]);
 }
 
 // Copies bytes of sector id of an image: the sector is lent as the part of the image that it is.
