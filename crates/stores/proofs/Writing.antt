@@ -7,7 +7,7 @@ use borrow.Rule.Slice.PartMut.{put_mid}
 use lib.ListN.{length, get_or, take, drop}
 use lib.Seq.{length-take-le, take_all, take-add}
 use Rattle.lists.specs.Lists.{splice, part}
-use Rattle.lists.proofs.Splice.{length_part, length_splice, splice_whole, splice_part}
+use Rattle.lists.proofs.Splice.{length_part, length_splice, splice_part}
 use Rattle.sectors.specs.Sectors.{start_of}
 use Rattle.stores.specs.Stores.{write_bytes, Writable}
 use Rattle.chain.proofs.Bytes.{chain_place}
@@ -15,12 +15,8 @@ use Rattle.chain.proofs.Standing.{Stands, stands_byte, lent_run, back_run}
 use Rattle.stores.proofs.Stored.{write_length, write_none, write_run, write_more_lem}
 
 -- a run copied over the part that is lent for it
-pub copied_run : (sector run out : List ℕ) (x : ℕ) → x + length run ≤ length sector → out ≡ splice (take (x + length run - x) (drop x sector)) 0 run
-    → put_mid x (x + length run - x) sector out ≡ splice sector x run
-copied_run sector run out x h e =
-    let lent : length (part sector x (length run)) ≡ length run = length_part sector x (length run) h in
-    let same : out ≡ run = e ∙ ap (λ (l : List ℕ). splice l 0 run) (lent_run sector x (length run)) ∙ splice_whole (part sector x (length run)) run (sym lent) in
-    back_run sector x (length run) out (ap length same) ∙ ap (splice sector x) same
+pub copied_run : (sector run out : List ℕ) (x : ℕ) → out ≡ run → put_mid x (x + length run - x) sector out ≡ splice sector x run
+copied_run sector run out x same = back_run sector x (length run) out (ap length same) ∙ ap (splice sector x) same
 
 -- a sector that was lent and comes back with a run over it
 pub sector_back : (S id x : ℕ) (img run out : List ℕ) → start_of S id + S ≤ length img → x + length run ≤ S

@@ -15,7 +15,7 @@ fn copy_into(sector: &mut [u8], x: usize, run: &[u8])
     ensures { sector.new ≡ splice sector.old x run.now }
 {
     let end = x + run.len();
-    words::copy(run, &mut sector[x..end]);
+    sector[x..end].copy_from_slice(run);
 }
 
 // Copies a run of bytes over the bytes of sector id of an image from x on.
