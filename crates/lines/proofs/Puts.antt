@@ -7,8 +7,8 @@ use native.Mathlib.Nat.{add-zero}
 use borrow.Rule.Slice.PartMut.{put_mid}
 use lib.ListN.{length, take, drop, replicate, length-append}
 use lib.Seq.{take_at}
-use Rattle.lists.specs.Lists.{splice, part}
-use Rattle.lists.proofs.Splice.{length_part, length_splice, splice_nil, splice_whole, put_mid_splice}
+use Rattle.lists.specs.Lists.{splice}
+use Rattle.lists.proofs.Splice.{length_splice, splice_nil, put_mid_splice}
 use Rattle.consts.specs.Pretty.{prettify_of, item_at}
 use Rattle.texts.specs.Text.{text_of, decimal_of, written, Put}
 use Rattle.consts.specs.declared.Sector.{Sector}
@@ -21,15 +21,10 @@ use Rattle.texts.proofs.Puts.{put_after}
 use Rattle.lines.specs.Lines.{line_of, lines_of, counted, sectors_word, free_word, refused_word, counts_line, refused_line, listed}
 
 -- a word that is copied over a lent part is put there
-pub word_put : (b : List ℕ) (at : ℕ) (word : List ℕ) {last : List ℕ} → at + length word ≤ length b → last ≡ splice (take (at + length word - at) (drop at b)) 0 word
-    → Put b at word (at + length word) (put_mid at (at + length word - at) b last)
-unfolding part
+pub word_put : (b : List ℕ) (at : ℕ) (word : List ℕ) {last : List ℕ} → at + length word ≤ length b → last ≡ word → Put b at word (at + length word) (put_mid at (at + length word - at) b last)
 word_put b at word {last} h e =
     let k : at + length word - at ≡ length word = omega arith in
-    let p : take (at + length word - at) (drop at b) ≡ part b at (length word) = ap (λ (n : ℕ). take n (drop at b)) k in
-    let l : length (part b at (length word)) ≡ length word = length_part b at (length word) h in
-    let z : last ≡ word = e ∙ ap (λ (q : List ℕ). splice q 0 word) p ∙ splice_whole (part b at (length word)) word (sym l) in
-    let back : put_mid at (at + length word - at) b last ≡ splice b at word = rw (k, z) (put_mid_splice at (length word) b word refl) in
+    let back : put_mid at (at + length word - at) b last ≡ splice b at word = rw (k, e) (put_mid_splice at (length word) b word refl) in
     record { place = refl; kept = ap length back ∙ length_splice b at word h; buffer = back }
 
 -- the text of `text_of` and `digits_of`, taken off its bytes

@@ -4,4 +4,4 @@ use Rattle.lines.proofs.put_word.Goals as goal
 
 pub returns : goal.returns
 returns c =
-    word_put _ _ _ c.requires c.copy.ensures
+    word_put _ _ _ c.requires c.copy_from_slice.ensures.after
