@@ -21,7 +21,7 @@ fn put_entries(case: &[u8], sector: &mut [u8])
     ensures { sector.new ≡ entries_in case.now }
 {
     sector.fill(0xff);
-    words::copy(&case[520..616], sector);
+    sector[..96].copy_from_slice(&case[520..616]);
 }
 
 // Puts a header and 24 sectors: the header of the record, its FAT sector in its place, and zeros.
@@ -30,7 +30,7 @@ fn put_sectors(case: &[u8], place: usize, image: &mut [u8])
     ensures { image.new ≡ sector_bytes case.now }
 {
     image.fill(0);
-    words::copy(&case[8..520], image);
+    image[..512].copy_from_slice(&case[8..520]);
     let at = 512 * (place + 1);
     let end = at + 512;
     put_entries(case, &mut image[at..end]);
