@@ -22,6 +22,7 @@ use moves::change::Edit;
 use states::told::{give, words_of_answer};
 use states::{holds_state, state_in, words_of_state};
 use tables::{Tables, TablesMut};
+use texts::Text;
 
 // Reads a header: 0, or the number of the refusal; `words` then hold the header, or what stands beside the refusal. Mode 0 is permissive.
 pub fn rasuvelk_read_header(bytes: &[u8], mode: u32, words: &mut [u32; 117]) -> u32
@@ -259,8 +260,7 @@ pub fn rasuvelk_prettify(sectors: &[u32], at: usize, item: &mut [u64; 3]) -> u32
     ensures item_after { item.new ≡ item_numbers (item_at sectors.now at) }
 {
     let found = consts::prettify(sectors, at);
-    let numbers = item_numbers(found);
-    *item = numbers;
+    *item = item_numbers(found);
     number_of_item(found)
 }
 
@@ -269,8 +269,7 @@ pub fn rasuvelk_sector_text(kind: u32, a: u64, b: u64, out: &mut [u8; 32]) -> us
     ensures value { result ≡ (named_text (named_of kind a b)).len }
     ensures out_after { out.new ≡ (named_text (named_of kind a b)).bytes }
 {
-    let text = named_text(item_named(kind, a, b));
-    let bytes = text.bytes;
+    let Text { bytes, len } = named_text(item_named(kind, a, b));
     *out = bytes;
-    text.len
+    len
 }
