@@ -13,7 +13,7 @@ pub fn words_of_answer(answer: Result<Done, Refusal>) -> [u64; 3]
     ensures { result ≡ answer_words answer }
 {
     match answer {
-        Ok(done) => [done.ids as u64, done.start as u64, done.bytes as u64],
+        Ok(done) => [done.ids as u64, u64::from(done.start), done.bytes as u64],
         Err(_) => [0u64; 3],
     }
 }
