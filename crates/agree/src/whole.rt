@@ -23,7 +23,8 @@ fn tails_zero(n: usize, k: usize, d: usize, free: usize, tables: Tables<'_>) -> 
     ensures { result ≡ tails_zero n k d free (tables_of tables.entry) }
 {
     let lists = zeros_from(tables.fats, k)
-        & (zeros_from(tables.difats, d) & (zeros_from(tables.frees, free) & zeros_from(tables.marks, n)));
+        & (zeros_from(tables.difats, d)
+            & (zeros_from(tables.frees, free) & zeros_from(tables.marks, n)));
     zeros_from(tables.fat, n) & lists
 }
 
