@@ -1,6 +1,6 @@
 // Whether lent tables are those of an image that opens (document 01, refusals 12 to 18 and 19).
 ghost use Rattle.std.specs.Prelude.{◌≡◌, length};
-ghost use Rattle.tables.specs.Tables.{tables_of};
+ghost use Rattle.lent.specs.Tables.{tables_of};
 ghost use Rattle.fat.specs.Lists.{fat_of};
 ghost use Rattle.agree.specs.Parts.{FatLent, FrontLent, fat_same, front_same};
 
@@ -9,8 +9,8 @@ use compare::permissive::same_permissive;
 use compare::strict::same_strict;
 use fat::load::tail_free;
 use header::Header;
+use lent::Tables;
 use points::points::same_points;
-use tables::Tables;
 
 // Whether a FAT is the image's. Strict compares it with the FAT sectors as they are, permissive with a copy of them that is marked and forgiven. The room, as long as the FAT, may be written over.
 pub fn same_fat(

@@ -2,7 +2,7 @@
 ghost use Rattle.std.specs.Prelude.{◌≡◌, ◌≤◌, eqb, length};
 ghost use Rattle.lists.specs.Lists.{both};
 ghost use Rattle.lists.specs.Rows.{refusal};
-ghost use Rattle.tables.specs.Tables.{tables_of};
+ghost use Rattle.lent.specs.Tables.{tables_of};
 ghost use Rattle.header.specs.Versions.{length_of};
 ghost use Rattle.fat.specs.Lists.{room_of};
 ghost use Rattle.alloc.specs.Opening.{open_tables, table_rows};
@@ -15,8 +15,8 @@ use alloc::early::{Early, judge_early};
 use alloc::open::Found;
 use fat::listed::ceil;
 use header::Validation;
+use lent::Tables;
 use points::frees::same_frees;
-use tables::Tables;
 
 // Whether each table holds zero past its count: n sectors, k of the FAT, d of the DIFAT, and so many FREE.
 fn tails_zero(n: usize, k: usize, d: usize, free: usize, tables: Tables<'_>) -> bool

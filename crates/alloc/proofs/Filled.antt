@@ -17,8 +17,8 @@ use Rattle.std.specs.Prelude.{Result, Ok, Err}
 use Rattle.std.specs.Result.{is_err}
 use Rattle.consts.specs.declared.refusal.Refusal.{Refusal}
 use Rattle.consts.proofs.Refusals.{number_not}
-use Rattle.tables.specs.Tables.{tables_in, zeroed, SameTables}
-use Rattle.tables.specs.declared.TablesMut.{TablesMut}
+use Rattle.lent.specs.Tables.{tables_in, zeroed, SameTables}
+use Rattle.lent.specs.declared.TablesMut.{TablesMut}
 use Rattle.alloc.specs.Opening.{Tables, open_fat, padded}
 
 -- the front of a list of zeros

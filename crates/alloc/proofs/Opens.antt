@@ -20,7 +20,7 @@ use Rattle.header.specs.declared.Version.{Version}
 use Rattle.header.specs.declared.Version.TheVariants.{V3, V4}
 use Rattle.fat.specs.Lists.{sectors_in}
 use Rattle.judge.specs.Judge.{fat_rows}
-use Rattle.tables.specs.Tables.{shortest, zeroed}
+use Rattle.lent.specs.Tables.{shortest, zeroed}
 use Rattle.alloc.specs.Opening.{Tables, first_rows, table_rows, open_rows, open_no, open_tables, left_in}
 use Rattle.alloc.specs.Opened.{found_in, tables_left, AllLoaded, Lent, OpenSays}
 use Rattle.alloc.specs.Early.{early_of}

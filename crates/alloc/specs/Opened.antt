@@ -10,7 +10,7 @@ use Rattle.fat.specs.Lists.{most, sectors_in, difats_in, fats_in}
 use Rattle.judge.specs.Judge.{frees_of, marks_of}
 use Rattle.consts.specs.Refusals.{ends_with}
 use Rattle.consts.specs.declared.refusal.Refusal.{Refusal}
-use Rattle.tables.specs.Tables.{zeroed}
+use Rattle.lent.specs.Tables.{zeroed}
 use Rattle.alloc.specs.Opening.{Tables, table_rows, open_fat, open_tables, open_no, shortest, padded, left_in}
 use Rattle.alloc.specs.declared.open.Found.{Found}
 

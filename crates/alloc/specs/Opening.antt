@@ -7,8 +7,8 @@ use Rattle.header.specs.Read.{header_rows, header_of}
 use Rattle.header.specs.declared.Validation.{Validation}
 use Rattle.header.specs.declared.Header.{Header}
 use Rattle.fat.specs.Lists.{most, sectors_in, room_of, fat_of, difats_in, fats_in, lists_right, tail_free}
-pub use Rattle.tables.specs.Tables.{Tables}
-unfoldable pub use Rattle.tables.specs.Tables.{shortest}
+pub use Rattle.lent.specs.Tables.{Tables}
+unfoldable pub use Rattle.lent.specs.Tables.{shortest}
 use Rattle.judge.specs.Judge.{marked_fat, forgiven_fat, marks_of, frees_of, fat_rows}
 
 -- the FAT as the bytes have it, and with its listed sectors marked

@@ -1,6 +1,6 @@
 // The opening of an image (document 01, "Opening an image").
 ghost use Rattle.std.specs.Prelude.{◌≡◌, length};
-ghost use Rattle.tables.specs.Tables.{tables_in, SameTables};
+ghost use Rattle.lent.specs.Tables.{tables_in, SameTables};
 ghost use Rattle.alloc.specs.Opened.{AllFilled, AllLoaded, Lent, OpenSays, Zeroed};
 
 use crate::early::judge_early;
@@ -8,7 +8,7 @@ use crate::tables::load_tables;
 use consts::refusal::Refusal;
 use fat::listed::ceil;
 use header::{Header, Validation};
-use tables::TablesMut;
+use lent::TablesMut;
 
 // Loads every table of n sectors into the fronts of lent ones that are zero, and returns how many sectors are FREE. A refusal (12 to
 // 18) leaves rubbish in the tables. The free list may hold anything before.

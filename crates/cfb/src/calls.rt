@@ -1,6 +1,6 @@
 // What every call on a chain begins with: lengths, agreement, and the walk (document 01, refusals 11 and 19 to 22).
 ghost use Rattle.std.specs.Prelude.{◌≡◌};
-ghost use Rattle.tables.specs.Tables.{tables_of};
+ghost use Rattle.lent.specs.Tables.{tables_of};
 ghost use Rattle.cfb.specs.Calls.{state_len};
 ghost use Rattle.cfb.specs.Listed.{cleared, ChainListed};
 
@@ -9,8 +9,8 @@ use agree::whole::agrees;
 use alloc::early::room_of;
 use alloc::open::Found;
 use consts::refusal::Refusal;
+use lent::Tables;
 use moves::change::zero_from;
-use tables::Tables;
 use walk::walk;
 
 // The length of the sectors of an open image.

@@ -2,7 +2,7 @@
 ghost use Rattle.std.specs.Prelude.{◌≡◌, ◌+◌, ◌*◌, ◌≤◌, eqb, length, get_or};
 ghost use Rattle.lists.specs.Lists.{either};
 ghost use Rattle.consts.specs.Refusals.{ends_with};
-ghost use Rattle.tables.specs.Tables.{tables_of};
+ghost use Rattle.lent.specs.Tables.{tables_of};
 ghost use Rattle.fat.specs.Lists.{room_of};
 ghost use Rattle.moves.specs.Change.{seek_of, bytes_of};
 ghost use Rattle.cfb.specs.Calls.{state_len, chain_ids};
@@ -13,9 +13,9 @@ use crate::{Called, Done, State};
 use alloc::early::room_of;
 use consts::refusal::Refusal;
 use header::content::content;
+use lent::Tables;
 use moves::change::{Edit, more_of};
 use room::has_room;
-use tables::Tables;
 
 // Whether the mark of the start is set: some entry points at it.
 fn is_marked(marks: &[u8], start: u32) -> bool

@@ -6,7 +6,7 @@ mod changes;
 
 ghost use Rattle.std.specs.Prelude.{◌≡◌};
 ghost use Rattle.consts.specs.Refusals.{ends_with};
-ghost use Rattle.tables.specs.Tables.{tables_of, tables_in, SameTables};
+ghost use Rattle.lent.specs.Tables.{tables_of, tables_in, SameTables};
 ghost use Rattle.cfb.specs.Calls.{ChainOpens, ChainReads, Reads};
 ghost use Rattle.cfb.specs.Changes.{ChainEdits, ChainWrites, ChainResizes};
 ghost use Rattle.cfb.specs.Face.{no_state, Opens};
@@ -17,8 +17,8 @@ use changes::{change_of, done_with, edit_listed};
 use consts::refusal::Refusal;
 use disk::disk::Hand;
 use header::{Header, Validation, Version};
+use lent::{Tables, TablesMut};
 use moves::change::{Edit, change as change_chain};
-use tables::{Tables, TablesMut};
 
 // How many sectors an image has, and how many of them are FREE.
 #[derive(Clone, Copy, Debug, PartialEq, Eq)]

@@ -1,6 +1,6 @@
 -- What is in hand of an open image, as the disk that it is, and what a change of the disk leaves of the rest. Assumes nothing.
 use Rattle.std.specs.Prelude.{◌≡◌, length}
-use Rattle.tables.specs.Tables.{SameTables}
+use Rattle.lent.specs.Tables.{SameTables}
 use Rattle.disk.specs.Disk.{Disk}
 use Rattle.disk.specs.declared.disk.Hand.{Hand}
 

@@ -10,8 +10,8 @@ ghost use Rattle.words.specs.Words.{digits};
 use fat::listed::ceil;
 use fields::entries::put_place;
 use fields::{DIFAT, DIFATS, FATS, put_number};
+use lent::TablesMut;
 use sectors::init::{SectorInit, init_at, put_at};
-use tables::TablesMut;
 
 // What is in hand of an open image: its bytes and its tables as lent, the sectors' length, how many sectors there are, and how many
 // of them are FREE.

@@ -8,7 +8,7 @@ ghost use Rattle.consts.specs.Pretty.{item_at};
 ghost use Rattle.header.specs.Read.{read_no, header_left};
 ghost use Rattle.items.specs.Items.{kind_number, item_number, item_numbers, named_of, named_text};
 ghost use Rattle.layout.specs.Layout.{mode_of, words_of, written_no, bytes_left};
-ghost use Rattle.tables.specs.Tables.{tables_in, SameTables};
+ghost use Rattle.lent.specs.Tables.{tables_in, SameTables};
 ghost use Rattle.export.specs.Opening.{OpenGives};
 ghost use Rattle.export.specs.Chains.{OpenChainGives, ReadChainGives};
 ghost use Rattle.export.specs.Changes.{EditChainGives, WriteChainGives, ResizeChainGives};
@@ -18,10 +18,10 @@ use consts::refusal::{Refusal, ends_with};
 use header::{Header, Version};
 use items::{item_named, item_numbers, named_text, number_of_item, number_of_kind};
 use layout::{header_with, mode_of, words_of};
+use lent::{Tables, TablesMut};
 use moves::change::Edit;
 use states::told::{give, words_of_answer};
 use states::{holds_state, state_in, words_of_state};
-use tables::{Tables, TablesMut};
 use texts::Text;
 
 // Reads a header: 0, or the number of the refusal; `words` then hold the header, or what stands beside the refusal. Mode 0 is permissive.

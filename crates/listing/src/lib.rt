@@ -8,8 +8,8 @@ ghost use Rattle.listing.specs.Verdict.{FatOpened};
 
 use cfb::{Opened, State};
 use header::Validation;
+use lent::TablesMut;
 use lines::{put_listed, put_refused};
-use tables::TablesMut;
 use texts::Out;
 
 // The longest image that is listed.

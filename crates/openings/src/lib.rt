@@ -3,15 +3,15 @@
 #![tactic(auto)]
 
 ghost use Rattle.std.specs.Prelude.{◌≡◌, true, ◌<◌, length, get_or};
-ghost use Rattle.tables.specs.Tables.{tables_of};
+ghost use Rattle.lent.specs.Tables.{tables_of};
 ghost use Rattle.cfb.specs.Calls.{told_by};
 ghost use Rattle.records.specs.Records.{numbers_in};
 ghost use Rattle.openings.specs.Openings.{place_in, entries_in, sector_bytes, tables_in, CountedAs, ToldAs, Says, OpenedAs, ImageAgrees};
 
 use cfb::{Done, State};
 use consts::refusal::{Refusal, ends_with};
+use lent::{Tables, TablesMut};
 use records::{RECORD, length_in, mode_in, number_in, take_numbers};
-use tables::{Tables, TablesMut};
 
 // What a lent table of numbers is full of before a call; the marks are full of its byte.
 const RUBBISH: u32 = 0xaaaa_aaaa;

@@ -3,7 +3,7 @@ use Prim.Native.Nat.{ℕ}
 use mathlib.Core.Path.{◌≡◌, sym, ◌∙◌, ap}
 use mathlib.Core.Bool.{true}
 use Rattle.std.proofs.lemmas.Result.{IfOk-at_ok}
-use Rattle.tables.specs.Tables.{Tables, tables_of}
+use Rattle.lent.specs.Tables.{Tables, tables_of}
 use Rattle.lists.specs.Rows.{refusal}
 use Rattle.consts.specs.Refusals.{ends_with}
 use Rattle.consts.proofs.Refusals.{number_not}

@@ -4,7 +4,7 @@ use mathlib.Core.Path.{◌≡◌, sym, ◌∙◌, ap, subst}
 use native.Mathlib.Omega.{arith}
 use lib.ListN.{length}
 use lib.Seq.{length-take-le}
-use Rattle.tables.specs.Tables.{Tables, tables_of, front_of}
+use Rattle.lent.specs.Tables.{Tables, tables_of, front_of}
 use Rattle.sectors.specs.Sectors.{per_sector}
 use Rattle.fat.specs.Lists.{ceil, fat_count, difat_count}
 use Rattle.fat.specs.Loaded.{Counted}

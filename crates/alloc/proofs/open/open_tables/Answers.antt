@@ -2,7 +2,7 @@
 use mathlib.Core.Path.{◌≡◌, sym, ◌∙◌, ap}
 use Rattle.std.proofs.lemmas.Result.{err_from_is_err_and}
 use Rattle.lists.specs.Rows.{refusal}
-use Rattle.tables.specs.Tables.{tables_in, shortest}
+use Rattle.lent.specs.Tables.{tables_in, shortest}
 use Rattle.alloc.specs.declared.early.Early.{Early}
 use Rattle.alloc.specs.Early.{early_of}
 use Rattle.alloc.specs.Opening.{first_rows}

@@ -3,7 +3,7 @@ use Prim.Native.Nat.{ℕ}
 use mathlib.Core.Path.{◌≡◌, refl, ◌∙◌}
 use lib.ListN.{length}
 use Rattle.std.proofs.Common.{rules}
-use Rattle.tables.specs.Tables.{Tables, tables_in}
+use Rattle.lent.specs.Tables.{Tables, tables_in}
 use Rattle.hand.specs.Hand.{Chain}
 use Rattle.moves.specs.Change.{edited, bytes_of}
 use Rattle.moves.specs.Held.{chain_in}

@@ -5,7 +5,7 @@ use mathlib.Core.Bool.{true, false}
 use lib.Dec.{ltb}
 use lib.ListN.{length, replicate}
 use Rattle.fat.specs.Lists.{room_of}
-use Rattle.tables.specs.Tables.{Tables, tables_of}
+use Rattle.lent.specs.Tables.{Tables, tables_of}
 use Rattle.alloc.specs.Opening.{shortest}
 use Rattle.agree.proofs.Meaning.{agrees_exactly}
 use Rattle.cfb.specs.Calls.{state_len}

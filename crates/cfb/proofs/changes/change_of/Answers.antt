@@ -10,7 +10,7 @@ use lib.ListN.{length, replicate}
 use Rattle.std.proofs.lemmas.Result.{err_from_is_err_and}
 use Rattle.lists.specs.Lists.{choose, either}
 use Rattle.lists.proofs.Cases.{either_cases, either_none}
-use Rattle.tables.specs.Tables.{tables_of}
+use Rattle.lent.specs.Tables.{tables_of}
 use Rattle.consts.specs.Refusals.{ends_with}
 use Rattle.consts.specs.declared.refusal.Refusal.TheVariants.{PermissiveChange, MidChain}
 use Rattle.consts.proofs.Refusals.{number_not}

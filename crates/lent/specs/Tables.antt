@@ -1,7 +1,7 @@
 -- The lists that lent tables hold. Assumes nothing.
 use Rattle.std.specs.Prelude.{ℕ, ◌≡◌, ◌≤◌, min, List, length, take, replicate}
-use Rattle.tables.specs.declared.TablesMut.{TablesMut}
-use Rattle.tables.specs.declared.Tables as lent
+use Rattle.lent.specs.declared.TablesMut.{TablesMut}
+use Rattle.lent.specs.declared.Tables as lent
 
 -- the tables of an opened image
 pub record Tables : Type 0 where

@@ -3,7 +3,7 @@
 #![tactic(auto)]
 
 ghost use Rattle.std.specs.Prelude.{◌≡◌};
-ghost use Rattle.tables.specs.Tables.{tables_of, tables_in, shortest as shortest_of, zeroed, front_of, SameTables, Within};
+ghost use Rattle.lent.specs.Tables.{tables_of, tables_in, shortest as shortest_of, zeroed, front_of, SameTables, Within};
 
 // Lent tables that are read.
 #[derive(Clone, Copy)]
