@@ -53,7 +53,15 @@ pub fn same_tables(
     if !tail_free(image, s, n, fats) {
         return false;
     }
-    if !same_fat(image, s, strict, difats, fats, tables.fat, &mut scratch[..n]) {
+    if !same_fat(
+        image,
+        s,
+        strict,
+        difats,
+        fats,
+        tables.fat,
+        &mut scratch[..n],
+    ) {
         return false;
     }
     same_points(tables.fat, tables.marks, scratch)

@@ -14,7 +14,6 @@ use crate::tables::same_tables;
 use alloc::early::{Early, judge_early};
 use alloc::open::Found;
 use fat::listed::ceil;
-use fat::load::past_header;
 use header::Validation;
 use points::frees::same_frees;
 use tables::Tables;
@@ -24,7 +23,8 @@ fn tails_zero(n: usize, k: usize, d: usize, free: usize, tables: Tables<'_>) -> 
     ensures { result ≡ tails_zero n k d free (tables_of tables.entry) }
 {
     let lists = zeros_from(tables.fats, k)
-        & (zeros_from(tables.difats, d) & (zeros_from(tables.frees, free) & zeros_from(tables.marks, n)));
+        & (zeros_from(tables.difats, d)
+            & (zeros_from(tables.frees, free) & zeros_from(tables.marks, n)));
     zeros_from(tables.fat, n) & lists
 }
 
@@ -43,7 +43,7 @@ fn same_whole(
     let s = early.len;
     let n = early.sectors;
     let k = ceil(n, s / 4);
-    let d = ceil(past_header(k), s / 4 - 1);
+    let d = ceil(k.saturating_sub(109), s / 4 - 1);
     if !tails_zero(n, k, d, free, tables) {
         return false;
     }

@@ -7,7 +7,6 @@ use crate::early::judge_early;
 use crate::tables::load_tables;
 use consts::refusal::Refusal;
 use fat::listed::ceil;
-use fat::load::past_header;
 use header::{Header, Validation};
 use tables::TablesMut;
 
@@ -26,7 +25,7 @@ pub(crate) fn load_zeroed(
     ensures filled { AllFilled strict s image.now h n (tables_in tables.old) result (tables_in tables.new) }
 {
     let k = ceil(n, s / 4);
-    let d = ceil(past_header(k), s / 4 - 1);
+    let d = ceil(k.saturating_sub(109), s / 4 - 1);
     let fat = &mut *tables.fat;
     let fats = &mut *tables.fats;
     let difats = &mut *tables.difats;

@@ -1,68 +1,75 @@
--- The items of a short list and the lines of a text, one after the other. Assumes nothing.
-use Rattle.std.proofs.Common.{◌≡◌, ℕ, ◌+◌, ◌<◌, ◌≤◌, true, List, length, get_or, take, drop, sym, refl, ap, ◌∙◌, ⊎_elim, arith, drop_of_length-le, length-take-le, take_at}
+-- The lines of the items of a short list, one after the other. Assumes nothing.
+use Rattle.std.proofs.Common.{◌≡◌, ℕ, suc, ◌+◌, ◌-◌, ◌<◌, ◌≤◌, true, false, List, [], ◌∷◌, ◌++◌, Option, None, Some, IfSome, MatchOption, nat_eq, length, get_or, take, drop, replicate, take_at, get_or-drop, drop-cons, drop-drop, sym, refl, ap, ⊎_elim, ◌∙◌, arith, add-one, length-append, take-append-drop, drop_of_length-le}
+use Rattle.std.proofs.Math.Seq.{drop-append-add}
+use Rattle.std.proofs.lemmas.List.{get_or_at}
+use Rattle.std.specs.Borrow.{Bor}
+use Rattle.std.specs.Cmp.Lexicographic.{pointwise, same_text}
 use lib.ListN.{get_or-eq_default}
-use Rattle.lists.specs.Lists.{part, same_list}
+use Rattle.lists.specs.Lists.{part}
 use Rattle.lists.proofs.Cases.{below_or}
-use Rattle.lists.proofs.Splice.{same_list_true}
-use Rattle.consts.specs.Pretty.{prettify_of, item_at}
-use Rattle.texts.specs.Text.{text_of, written}
 use Rattle.consts.specs.declared.Sector.{Sector}
-use Rattle.consts.specs.declared.Item.{Item}
-use Rattle.consts.specs.declared.Item.TheVariants.{Next}
+use Rattle.texts.specs.Text.{text_of, written}
 use Rattle.texts.specs.declared.Text.{Text}
-use Rattle.consts.proofs.Listing.{Stands, item_stands}
-use Rattle.answers.specs.declared.Line.TheVariants.{Past, Other}
-use Rattle.answers.specs.Answers.{LineAt, Lines, ListedAs}
+use Rattle.answers.specs.Answers.{LineAt, Lines}
 
--- a line that does not stand there has no place past it
-pub no_line : {A : Type 0} (q : ℕ) → Other ≡ Past q → A
-no_line q e = let z : ◌≡◌ {A = ℕ} 0 1 = cc in absurd (omega arith)
+-- a list that begins with a text
+begun : (held text rest : List ℕ) → pointwise nat_eq (take (length text) held) text ≡ true → rest ≡ drop (length text) held → held ≡ text ++ rest
+begun held text rest t e =
+    rw e (sym (take-append-drop (length text) held) ∙ ap (λ l. l ++ drop (length text) held) (same_text _ _ (sym t)))
 
--- a text that was compared, with a line feed after it
-pub line_stands : (held bytes : List ℕ) (at len : ℕ) {there : List ℕ} → len ≤ length bytes → there ≡ part held at len → same_list (take len bytes) there ≡ true
-    → get_or held (at + len) 0 ≡ 10 → (q : ℕ) → Past (at + len + 1) ≡ Past q → LineAt held at (take len bytes) q
-line_stands held bytes at len h t s f q e =
-    let all : length (take len bytes) ≡ len = length-take-le len bytes h in
-    let place : at + len + 1 ≡ q = cc in
-    record { bytes = rw all (sym (same_list_true _ _ s ∙ t)); feed = rw all f; past = rw all (sym place) }
+-- a text and a line feed were taken off
+pub line_taken : (held text mid : List ℕ) (r : Option (Bor (List ℕ))) → pointwise nat_eq (take (length text) held) text ≡ true → mid ≡ drop (length text) held
+    → MatchOption r (pointwise nat_eq (take 1 mid) (10 ∷ []) ≡ false) (λ x. (pointwise nat_eq (take 1 mid) (10 ∷ []) ≡ true) × (x.now ≡ drop 1 mid) × (length x.now + 1 ≡ length mid))
+    → IfSome r (λ x. held ≡ text ++ (10 ∷ x.now))
+line_taken held text mid None t e m = tt
+line_taken held text mid (Some x) t e m = begun held text mid t e ∙ ap (λ l. text ++ l) (begun mid (10 ∷ []) x.now m.0 m.1)
 
--- one zero more
-pub zeros_more : (held : List ℕ) (at i : ℕ) → ((k : ℕ) → at ≤ k → k < i → get_or held k 0 ≡ 0) → get_or held i 0 ≡ 0
-    → (k : ℕ) → at ≤ k → k < i + 1 → get_or held k 0 ≡ 0
-zeros_more held at i so z k low high =
-    ⊎_elim (λ (l : k < i). so k low l) (λ (g : i ≤ k). let e : k ≡ i = omega arith in rw e z) (below_or k i)
+-- what is left of the text: where it begins, and that the lines of the items from k on have to agree from there
+pub record Left (held : List ℕ) (items : List Sector) (k : ℕ) (rest : List ℕ) : Type 0 where
+  pub past : ℕ
+  pub is : rest ≡ drop past held
+  pub lines : Lines held past (drop k items) → Lines held 0 items
 
--- zeros to the end, and past it nothing
-pub zeros_all : (held : List ℕ) (at i : ℕ) → ((k : ℕ) → at ≤ k → k < i → get_or held k 0 ≡ 0) → length held ≤ i → (k : ℕ) → at ≤ k → get_or held k 0 ≡ 0
-zeros_all held at i so end k low =
-    ⊎_elim (λ (l : k < i). so k low l) (λ (g : i ≤ k). get_or-eq_default held 0 (omega arith)) (below_or k i)
-
--- the text of an item, off the bytes that `text_of` gives
-pub text_taken : (s : Sector) {t : Text} → t ≡ written (text_of s) → take t.len t.bytes ≡ text_of s
-unfolding written
-text_taken s e = ap (λ (u : Text). take u.len u.bytes) e ∙ take_at (text_of s) _ (length (text_of s)) refl
-
--- what is still to agree once so many items are passed: their number, and the lines of the others
-pub record Rest (xs held : List ℕ) (n at past items : ℕ) : Type 0 where
-  pub number : length (prettify_of (drop at xs)) + items ≡ n
-  pub text : Lines held past (prettify_of (drop at xs))
-
--- an item and its line, and what follows them
-pub rest_more : (xs held : List ℕ) (n at past items : ℕ) {found : Item} {s : Sector} {next end : ℕ} {text : List ℕ} → found ≡ item_at xs at → found ≡ Next s next
-    → text ≡ text_of s → LineAt held past text end → Rest xs held n next end (items + 1) → Rest xs held n at past items
-unfolding Lines
-rest_more xs held n at past items {s = s} {next = next} {end = end} f e t line rest =
-    let here : Stands xs at s next = item_stands xs at s next (sym f ∙ e) in
-    let stands : LineAt held past (text_of s) end = rw t at line in
-    let lines : Lines held (past + length (text_of s) + 1) (prettify_of (drop next xs)) = rw stands.past at rest.text in
-    let plain : LineAt held past (text_of s) (past + length (text_of s) + 1) = rw stands.past at stands in
-    record { number = rw here.lists (omega (arith, rest.number)); text = rw here.lists (plain, lines) }
+-- one item more, whose text was taken off with a line feed
+pub left_more : {held : List ℕ} {items : List Sector} {k : ℕ} {rest mid text : List ℕ} (s : Sector) → Left held items k rest → rest ≡ text ++ (10 ∷ mid) → text ≡ text_of s
+    → (k < length items) × (s ≡ get_or items k s) → Left held items (k + 1) mid
+unfolding Lines part
+left_more {held} {items} {k} {rest} {mid} {text} s l r e h =
+    let t : rest ≡ text_of s ++ (10 ∷ mid) = rw e at r in
+    let n : ℕ = length (text_of s) in
+    let there : drop l.past held ≡ text_of s ++ (10 ∷ mid) = sym l.is ∙ t in
+    let line : LineAt held l.past (text_of s) (l.past + n + 1) = record {
+      bytes = ap (take n) there ∙ take_at (text_of s) (10 ∷ mid) n refl;
+      feed = sym (get_or-drop l.past held n 0) ∙ ap (λ b. get_or b n 0) there ∙ get_or_at (text_of s) 10 mid 0 n refl;
+      past = refl;
+    } in
+    let place : l.past + n + 1 ≡ l.past + (n + 1) = omega arith in
+    let next : drop k items ≡ s ∷ drop (k + 1) items = rw (add-one k) (drop-cons items k s h.0 ∙ ap (λ x. x ∷ drop (suc k) items) (sym h.1)) in
+    record {
+      past = l.past + n + 1;
+      is = sym (ap (λ q. drop q held) place ∙ sym (drop-drop (n + 1) l.past held) ∙ ap (drop (n + 1)) there ∙ drop-append-add (text_of s) (10 ∷ mid) 1);
+      lines = λ more. l.lines (rw next (line, more));
+    }
 
 -- no item is left, and only zeros
-pub rest_none : (xs held : List ℕ) (n at past items : ℕ) → length xs ≤ at → items ≡ n → ((i : ℕ) → past ≤ i → get_or held i 0 ≡ 0) → Rest xs held n at past items
-unfolding Lines prettify_of
-rest_none xs held n at past items h e z = record { number = rw (drop_of_length-le xs h) (omega arith); text = rw (drop_of_length-le xs h) z }
+pub left_over : {held : List ℕ} {items : List Sector} {k : ℕ} {rest : List ℕ} → Left held items k rest → k ≡ length items → ((i : ℕ) → i < length rest → get_or rest i 0 ≡ 0) → Lines held 0 items
+unfolding Lines
+left_over {held} {items} {k} {rest} l e z =
+    let over : drop k items ≡ [] = drop_of_length-le items (omega arith) in
+    let zero : (i : ℕ) → get_or rest i 0 ≡ 0 = λ i. ⊎_elim (λ (h : i < length rest). z i h) (λ (h : length rest ≤ i). get_or-eq_default rest 0 h) (below_or i (length rest)) in
+    l.lines (rw over (λ i low.
+    let place : i ≡ l.past + (i - l.past) = omega arith in
+    ap (λ q. get_or held q 0) place ∙ sym (get_or-drop l.past held (i - l.past) 0) ∙ ap (λ b. get_or b (i - l.past) 0) (sym l.is) ∙ zero (i - l.past)))
 
--- what is to agree at the start is the whole
-pub rest_whole : (xs held : List ℕ) (n : ℕ) → Rest xs held n 0 0 0 → ListedAs xs held n
-rest_whole xs held n rest = record { number = omega (arith, rest.number); text = rest.text }
+-- the text of an item, off the bytes that `text_of` gives
+pub text_taken : (xs : List ℕ) {t : Text} → t ≡ written xs → take t.len t.bytes ≡ xs
+unfolding written
+text_taken xs e = ap (λ (u : Text). take u.len u.bytes) e ∙ take_at xs _ (length xs) refl
+
+-- the bytes hold it
+pub text_within : (xs : List ℕ) {t : Text} → t ≡ written xs → t.len ≤ length t.bytes
+unfolding written
+text_within xs {t} e =
+    let l : t.len ≡ length xs = ap (λ (u : Text). u.len) e in
+    let b : length t.bytes ≡ length (xs ++ replicate (32 - length xs) 0) = ap (λ (u : Text). length u.bytes) e in
+    omega (arith, length-append xs (replicate (32 - length xs) 0))

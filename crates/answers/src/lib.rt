@@ -1,17 +1,17 @@
 // The readings, the writings and the short lists on the list that the program `replay` reads, each asked of the library again.
 #![tactic(auto)]
 
-ghost use Rattle.std.specs.Prelude.{◌≡◌, ℕ, ◌≤◌, true, length, take, slice_index};
+ghost use Rattle.std.specs.Prelude.{◌≡◌, true, ◌∷◌, ◌++◌, length, IfSome, IsTrue, ◌↔◌, EachIndex, slice_index};
 ghost use Rattle.header.specs.Write.{write_no};
-ghost use Rattle.answers.specs.Answers.{ReadAgrees, WriteAgrees, ListAgrees, LineAt, ListedAs, before, after as after_of};
+ghost use Rattle.answers.specs.Answers.{ReadAgrees, WriteAgrees, ListAgrees, ListedAs, before, after as after_of};
 
-use consts::Item;
-use header::{Header, Numbered, Version};
-use records::{header_in, length_in, mode_in, number_in, same_header, take_numbers};
+use consts::refusal::ends_with;
+use header::{Header, Version};
+use records::{RECORD, header_in, length_in, mode_in, number_in, same_header, take_numbers};
+use texts::Text;
 
 // Whether the reader gives the number and the words of an R record: the slice from 8 on, the words from 552 on.
-pub fn same_read(case: &[u8]) -> bool
-    requires { length case.now ≡ 1024 }
+pub fn same_read(case: &[u8; RECORD]) -> bool
     ensures { result ≡ true → ReadAgrees case.now }
 {
     let len = length_in(case);
@@ -20,15 +20,13 @@ pub fn same_read(case: &[u8]) -> bool
     }
     let end = 8 + len;
     let read = Header::read_from(&case[8..end], mode_in(case));
-    let verdict = read.verdict;
-    if verdict.number() != number_in(case) {
+    if ends_with(&read) != number_in(case) {
         return false;
     }
-    let numbered = Version::from_number(words::read32(case, 552));
-    let Numbered::Known(version) = numbered else {
+    let Ok(version) = Version::try_from(words::read::<4>(case, 552)) else {
         return false;
     };
-    let header = read.header;
+    let header = read.unwrap_or(Header::none());
     same_header(header, header_in(version, &case[552..1020]))
 }
 
@@ -37,11 +35,9 @@ fn put_before(buf: &mut [u8])
     ensures { buf.new ≡ before (length buf.old) }
 {
     let mut v: u8 = 3;
-    let mut i = 0;
-    while i < buf.len() {
-        buf[i] = v;
-        v = std::num::wrapping_add_u8(v, 7);
-        i += 1;
+    for x in buf.iter_mut() {
+        *x = v;
+        v = v.wrapping_add(7);
     }
 }
 
@@ -50,24 +46,19 @@ fn written_as(h: Header, buf: &mut [u8], number: u32, after: &[u8]) -> bool
     ensures { result ≡ true → (write_no h (length buf.old) ≡ number) × (after_of h (length buf.old) ≡ after.now) }
 {
     put_before(buf);
-    let verdict = h.write_to(buf);
-    if verdict.number() != number {
-        return false;
-    }
-    words::same(buf, after)
+    let written = h.write_to(buf);
+    ends_with(&written) == number && &*buf == after
 }
 
 // Whether the writer gives the number and the bytes of a W record: the words from 8 on, the bytes from 476 on.
-pub fn same_write(case: &[u8]) -> bool
-    requires { length case.now ≡ 1024 }
+pub fn same_write(case: &[u8; RECORD]) -> bool
     ensures { result ≡ true → WriteAgrees case.now }
 {
     let len = length_in(case);
     if 540 < len {
         return false;
     }
-    let numbered = Version::from_number(words::read32(case, 8));
-    let Numbered::Known(version) = numbered else {
+    let Ok(version) = Version::try_from(words::read::<4>(case, 8)) else {
         return false;
     };
     let header = header_in(version, &case[8..476]);
@@ -76,81 +67,39 @@ pub fn same_write(case: &[u8]) -> bool
     written_as(header, &mut buf[..len], number_in(case), &case[476..end])
 }
 
-// Where a line ends that stands in the text, if it stands there.
-#[derive(Clone, Copy)]
-enum Line {
-    Past(usize),
-    Other,
-}
-
-// The place past a text and a line feed, if they stand in `held` from `at` on; the text is the first `len` bytes.
-fn line_at(held: &[u8], at: usize, bytes: [u8; 32], len: usize) -> Line
-    ensures { (q : ℕ) → result ≡ Line.Past q → LineAt held.now at (take len bytes) q }
+// What stands behind a text and a line feed, if `held` begins with them.
+fn after_line<'a>(held: &'a [u8], text: &[u8]) -> Option<&'a [u8]>
+    ensures { IfSome result (λ rest. held.now ≡ text.now ++ (10 ∷ rest.now)) }
 {
-    if 32 < len {
-        return Line::Other;
-    }
-    if held.len() < at {
-        return Line::Other;
-    }
-    if held.len() - at <= len {
-        return Line::Other;
-    }
-    let end = at + len;
-    if !words::same(&bytes[..len], &held[at..end]) {
-        return Line::Other;
-    }
-    if held[end] != b'\n' {
-        return Line::Other;
-    }
-    Line::Past(end + 1)
+    held.strip_prefix(text)?.strip_prefix(b"\n")
 }
 
-// Whether nothing but zeros stands in `held` from `at` on.
-fn only_zeros(held: &[u8], at: usize) -> bool
-    ensures { result ≡ true → (i : ℕ) → at ≤ i → slice_index held.now i ≡ 0 }
+// Whether nothing but zeros stands in `held`.
+fn only_zeros(held: &[u8]) -> bool
+    ensures { IsTrue result ↔ EachIndex held.now (λ k. slice_index held.now k ≡ 0) }
 {
-    let mut i = at;
-    while i < held.len() {
-        if held[i] != 0 {
-            return false;
-        }
-        i += 1;
-    }
-    true
+    held.iter().all(|x| *x == 0)
 }
 
-// Whether the items of the entries are so many, and their lines are all that `held` has.
+// Whether the items of the entries are so many, and their lines are all that `held` has but for zeros.
 fn same_items(sectors: &[u32], held: &[u8], number: u32) -> bool
     ensures { result ≡ true → ListedAs sectors.now held.now number }
 {
-    let mut at = 0;
-    let mut past = 0;
-    let mut items: u32 = 0;
-    while items < number {
-        let item = consts::prettify(sectors, at);
-        let Item::Next(s, next) = item else {
+    let mut held = held;
+    let mut items = 0;
+    for item in consts::short_list(sectors) {
+        let Text { bytes, len } = texts::text_of(item);
+        let Some(rest) = after_line(held, &bytes[..len]) else {
             return false;
         };
-        let text = texts::text_of(s);
-        let bytes = text.bytes;
-        let line = line_at(held, past, bytes, text.len);
-        let Line::Past(end) = line else {
-            return false;
-        };
-        at = next;
-        past = end;
+        held = rest;
         items += 1;
     }
-    if at < sectors.len() {
-        return false;
-    }
-    only_zeros(held, past)
+    items == number as usize && only_zeros(held)
 }
 
 // Whether the short list has the items and the text of a P record: the entries from 8 on, the text from 248 on.
-pub fn same_list(case: &[u8]) -> bool
-    requires { length case.now ≡ 1024 }
+pub fn same_list(case: &[u8; RECORD]) -> bool
     ensures { result ≡ true → ListAgrees case.now }
 {
     let len = length_in(case);

@@ -14,7 +14,7 @@ use Rattle.lists.proofs.Cases.{same_or}
 use Rattle.lists.proofs.Rows.{stop, pass, append_given, append_none}
 use Rattle.alloc.specs.Opening.{Tables, padded}
 use Rattle.std.specs.Prelude.{Result, Ok, Err}
-use Rattle.consts.specs.Refusals.{number_of}
+use Rattle.consts.specs.Refusals.{number_of, ends_with}
 use Rattle.consts.specs.declared.refusal.Refusal.{Refusal}
 use Rattle.consts.specs.declared.refusal.Refusal.TheVariants.{Offset}
 use Rattle.consts.proofs.Refusals.{number_apart, ends_refused, ends_accepted}
@@ -118,6 +118,11 @@ module _ (s : State) (img : List ℕ) (t : Tables) (ids : List ℕ) (start : ℕ
 pub reads_rest : {s : State} {img : List ℕ} {t : Tables} {ids : List ℕ} {start offset : ℕ} {buf ids' buf' : List ℕ} (r : Result Done Refusal) → Reads s img t ids start offset buf r ids' buf'
     → ChainReads s img t ids start offset buf (record { answer = r; state = s }) img t ids' buf'
 reads_rest r a = record { answer = a.answer; state = refl; image = refl; tables = refl; list = a.list; buffer = a.buffer }
+
+-- the number that an answer ends with is the first that it tells
+pub number_told : (a : Result Done Refusal) → ends_with a ≡ get_or (told_by a) 0 0
+number_told (Ok d) = refl
+number_told (Err e) = refl
 
 -- two answers with the same numbers are one
 pub told_apart : (v w : Result Done Refusal) → told_by v ≡ told_by w → v ≡ w

@@ -33,7 +33,6 @@ use Rattle.consts.proofs.Refusals.{ends_accepted}
 use Rattle.cfb.specs.Changes.{change_rows, change_no, chain_from, Listing}
 use Rattle.cfb.specs.declared.State.{State}
 use Rattle.cfb.proofs.Agreed.{Chained}
-
 use Rattle.cfb.proofs.Fitted.{agreed_fits, agreed_frees}
 use Rattle.cfb.proofs.Lying.{agreed, known, lists_chain}
 use Rattle.cfb.proofs.Refusing.{padded_front, refused_early, refused_mode, refused_walk}

@@ -111,11 +111,13 @@ impl State {
         ensures opens { Opens mode image.now used (tables_in tables.old) result image.now (tables_in tables.new) }
     {
         match open_tables(image, used, mode, tables) {
-            Ok(Found {
-                sectors,
-                free,
-                header,
-            }) => Opened {
+            Ok(
+                Found {
+                    sectors,
+                    free,
+                    header,
+                },
+            ) => Opened {
                 verdict: Ok(Counts { sectors, free }),
                 state: State {
                     mode,
@@ -133,13 +135,7 @@ impl State {
     }
 
     // Opens a chain: its ids are left in `ids`, and zeros after them. Refusals 11, 19, 20, 21 and 22: 11 leaves `ids` as they were, the others zero.
-    pub fn open_chain(
-        self,
-        image: &[u8],
-        tables: Tables<'_>,
-        ids: &mut [u32],
-        start: u32,
-    ) -> Called
+    pub fn open_chain(self, image: &[u8], tables: Tables<'_>, ids: &mut [u32], start: u32) -> Called
         ensures { ChainOpens self image.now (tables_of tables.entry) ids.old start result image.now (tables_of tables.entry) ids.new }
     {
         let answer = match chain_of(self, image, tables, ids, start) {

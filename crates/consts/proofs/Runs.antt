@@ -9,7 +9,7 @@ use native.Mathlib.Nat.{add-zero}
 use native.Mathlib.Numerals.{add-one}
 use borrow.Author.Tests.{eq-eqb, ne_eqb, le-leb, eqb-true, leb-true}
 use lib.Dec.{eqb, leb}
-use lib.ListN.{length, get_or, drop, drop_of_length-le}
+use lib.ListN.{length, get_or, drop}
 use lib.Seq.{drop-cons}
 use Rattle.std.specs.Prelude.{◌==◌}
 use Rattle.std.specs.List.{prefix_len, range_with_len, zip}
@@ -30,18 +30,6 @@ run_cons v x xs e = rw (eq-eqb x v e) (omega arith)
 pub run_other : (v x : ℕ) (xs : List ℕ) → x ≢ v → run_of v (x ∷ xs) ≡ 0
 unfolding run_of
 run_other v x xs n = rw (ne_eqb x v n)
-
-run_past : (v : ℕ) (xs : List ℕ) (i : ℕ) → length xs ≤ i → run_of v (drop i xs) ≡ 0
-unfolding run_of
-run_past v xs i h = rw (drop_of_length-le xs h)
-
--- a run is within its list
-pub run_most : (v : ℕ) (xs : List ℕ) → run_of v xs ≤ length xs
-unfolding run_of
-run_most v [] = omega arith
-run_most v (x ∷ xs) =
-    let m : run_of v xs ≤ length xs = run_most v xs in
-    ⊎_elim (λ (e : x ≡ v). rw (run_cons v x xs e) (omega arith)) (λ (n : x ≢ v). rw (run_other v x xs n) (omega arith)) (same_or x v)
 
 -- which number goes on from b
 pub goes_on_lem : (b x : ℕ) → b < invalid_sector → x ≡ b + 1 → goes_on b x ≡ true

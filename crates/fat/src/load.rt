@@ -1,5 +1,5 @@
 // The lists and the FAT out of an image's bytes (MS-CFB 2.3 and 2.5; document 01, refusals 12 and 13).
-ghost use Rattle.std.specs.Prelude.{◌≡◌, ◌+◌, ◌-◌, ◌≤◌, min, length};
+ghost use Rattle.std.specs.Prelude.{◌≡◌, ◌+◌, ◌-◌, length};
 ghost use Rattle.sectors.specs.Sectors.{Holds};
 ghost use Rattle.fat.specs.Lists.{ends as ends_of, place_at, rest_free, fat_of, tail_free};
 ghost use Rattle.fat.specs.Loaded.{ChainListed, Covers, Places, PlacesListed};
@@ -43,13 +43,6 @@ pub fn place_at(image: &[u8], s: usize, n: usize, list: &[u32], difats: &[u32], 
     sectors::entry_at(image, s, difats[past / each] as usize, past % each)
 }
 
-// How many of k places lie past the header.
-pub fn past_header(k: usize) -> usize
-    ensures { result ≡ k - 109 }
-{
-    if k < 109 { 0 } else { k - 109 }
-}
-
 // Lists the sectors of the FAT, as many places of the DIFAT as the list has room for. Whether each
 // is below n.
 pub fn list_fats(
@@ -82,13 +75,6 @@ pub fn rest_free(image: &[u8], s: usize, n: usize, list: &[u32], difats: &[u32],
     (k.max(109)..end).fold(true, |free, p| {
         free & (place_at(image, s, n, list, difats, p) == consts::FREE_SECTOR)
     })
-}
-
-// The smaller of two numbers.
-pub fn lesser(a: usize, b: usize) -> usize
-    ensures { (result ≤ a) × (result ≤ b) × (result ≡ min a b) }
-{
-    if a < b { a } else { b }
 }
 
 // Loads the FAT from its sectors, a sector at a time.

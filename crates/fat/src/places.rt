@@ -3,13 +3,6 @@ ghost use Rattle.std.specs.Prelude.{◌≡◌, ℕ, ◌≤◌, ◌<◌, true, eq
 ghost use Rattle.lists.specs.Lists.{every};
 ghost use Rattle.fat.specs.Lists.{all_below, different as none_twice};
 
-// A sector's number as an index.
-pub fn index(x: u32) -> usize
-    ensures { result ≡ x }
-{
-    x as usize
-}
-
 // Stores at each number of the list a place where the list has that number.
 pub fn put_places(list: &[u32], scratch: &mut [u32])
     requires list_value { all_below (length scratch.old) list.now ≡ true }

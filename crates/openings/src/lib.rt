@@ -121,13 +121,7 @@ fn opened_as(case: &[u8; RECORD], image: &[u8]) -> bool
         marks: &mut [0xaau8; 24],
     };
     let opened = State::open(image, image.len(), mode_in(case), &mut tables);
-    record_says(
-        case,
-        image,
-        opened.number(),
-        opened.state,
-        tables.as_ref(),
-    )
+    record_says(case, image, opened.number(), opened.state, tables.as_ref())
 }
 
 // Whether the image of an O or a C record gives its answer: the header from 8 on, the entries from 520 on, then what the record says.

@@ -35,7 +35,10 @@ impl<'a> Tables<'a> {
     pub fn shortest(self) -> usize
         ensures { result ≡ shortest_of (tables_of self.entry) }
     {
-        let others = self.difats.len().min(self.frees.len().min(self.marks.len()));
+        let others = self
+            .difats
+            .len()
+            .min(self.frees.len().min(self.marks.len()));
         self.fat.len().min(self.fats.len().min(others))
     }
 

@@ -115,3 +115,15 @@ pub fn text_of(s: Sector) -> Text
     let len = out.len();
     Text { bytes, len }
 }
+
+// The decimal digits of a number, as a text.
+#[tactic(auto, using(crate::proofs::Decimal::decimal_of_usize))]
+pub fn digits_of(n: usize) -> Text
+    ensures { result ≡ written (decimal_of n) }
+{
+    let mut bytes = [0u8; 32];
+    let mut out = Out::new(&mut bytes);
+    out.push_decimal(n);
+    let len = out.len();
+    Text { bytes, len }
+}

@@ -1,10 +1,9 @@
--- `put_before` meets its contract: so far the bytes below i are put, and v is the next. Assumes nothing.
-use Rattle.std.proofs.Common.{◌≡◌, ◌+◌, ◌-◌, ◌*◌, ◌%◌, ◌≤◌, ◌++◌, length, drop}
-use Rattle.lists.specs.Lists.{tab}
+-- `put_before` meets its contract: so far the bytes below the index are put, and v is the next. Assumes nothing.
+use Rattle.std.proofs.Common.{◌≡◌, ℕ, ◌+◌, ◌*◌, ◌%◌, ◌<◌, get_or}
 use Rattle.answers.proofs.put_before.Given as goal
 
-abbrev pub invariant-loop-i : goal.invariant-loop-i
-invariant-loop-i l = (l.i ≤ length l.initial.buf) × (l.buf ≡ tab (λ k. (7 * k + 3) % 256) l.i ++ drop l.i l.initial.buf) × (length l.buf ≡ length l.initial.buf) × (l.v ≡ (7 * l.i + 3) % 256)
-
-abbrev pub decreases-loop-i : goal.decreases-loop-i
-decreases-loop-i l = length l.initial.buf - l.i
+abbrev pub invariant-loop-x : goal.invariant-loop-x
+invariant-loop-x l = record {
+  put : (k : ℕ) → k < l.x-index → get_or l.buf k 0 ≡ (7 * k + 3) % 256;
+  next : l.v ≡ (7 * l.x-index + 3) % 256;
+}

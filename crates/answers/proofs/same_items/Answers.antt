@@ -1,32 +1,42 @@
-use Rattle.std.proofs.Common.{arith}
-use Rattle.records.proofs.Held.{never}
-use Rattle.answers.proofs.Lined.{text_taken, rest_more, rest_none, rest_whole}
+use Rattle.std.proofs.Common.{◌≡◌, ◌<◌, [], ◌∷◌, length, get_or, arith, rules, sym, length-append, length-take-le}
+use Rattle.std.proofs.lemmas.Iterator.Consumers.{YieldsList-from_first, YieldsList-turn, YieldsList-end}
+use Rattle.consts.specs.Pretty.{prettify_of}
+use Rattle.consts.proofs.Listing.{items_few}
+use Rattle.answers.proofs.Lined.{left_more, left_over, text_taken, text_within}
 use Rattle.answers.proofs.same_items.Goals as goal
+use Rattle.answers.proofs.same_items.Goals.{In-Some}
 
-pub loop-items-init : goal.loop-items-init
-loop-items-init c = (omega arith, λ rest. rest)
+-- which item this turn has
+turn : (c : In-Some) → let all = prettify_of c.args.sectors.now in (length c.loop-item.yielded < length all) × (c.in-Some.item ≡ get_or all (length c.loop-item.yielded) c.in-Some.item)
+turn c =
+    YieldsList-turn (YieldsList-from_first (λ x. x) (λ s. prettify_of s.0.now) (prettify_of c.args.sectors.now) (search rules))
+    c.loop-item.yielded c.loop-item.item-iterator c.loop-item.yielded_by c.next.result c.next.new.self c.in-Some.item c.in-Some.is c.next.ensures.steps
 
-pub returns-in_default : goal.returns-in_default
-returns-in_default c = never
+pub slice_bounds-bytes-end : goal.slice_bounds-bytes-end
+slice_bounds-bytes-end c = text_within _ c.text_of-len.ensures
 
-pub returns-in_default-line : goal.returns-in_default-line
-returns-in_default-line c = never
+pub slice_bounds-after_line-end : goal.slice_bounds-after_line-end
+slice_bounds-after_line-end c = sym (length-take-le _ _ (text_within _ c.text_of-len.ensures))
 
-pub loop-items-preserved : goal.loop-items-preserved
-loop-items-preserved c =
-    let turn = c.loop-items in (
-      omega arith,
-      λ rest.
-          turn.invariant.1
-          (rest_more _ _ _ turn.at turn.past turn.items c.prettify-item.ensures c.in-Next.is
-          (text_taken _ c.text_of-text.ensures) (c.line_at-line.ensures _ c.in-Past.is) rest),
-    )
+pub overflow_add-items : goal.overflow_add-items
+overflow_add-items c =
+    let passed = goal.at.overflow_add-items c in
+    omega (arith, c.loop-item.invariant.count, turn passed.In-Some, items_few c.args.sectors.now)
 
-pub returns-then-at-sectors : goal.returns-then-at-sectors
-returns-then-at-sectors c = never
+pub loop-item-preserved : goal.loop-item-preserved
+loop-item-preserved c =
+    let passed = goal.at.loop-item-preserved c in
+    let h = c.loop-item.invariant in
+    let count = length-append c.loop-item.yielded (c.in-Some.item ∷ []) in
+    record {
+      count = omega (arith, h.count, count);
+      left = rw count (left_more c.in-Some.item h.left c.in-Some-after_line.ensures (text_taken _ c.text_of-len.ensures) (turn passed.In-Some));
+    }
 
-pub returns : goal.returns
-returns c =
-    let turn = c.loop-items in
-    λ e.
-    rest_whole _ _ _ (turn.invariant.1 (rest_none _ _ _ turn.at turn.past turn.items c.if-at-sectors.false (omega arith) (c.only_zeros.ensures e)))
+pub returns-then-items-number : goal.returns-then-items-number
+returns-then-items-number c =
+    let h = c.loop-item.invariant in
+    let all : length c.loop-item.yielded ≡ length (prettify_of c.args.sectors.now) =
+    (YieldsList-end (YieldsList-from_first (λ x. x) (λ s. prettify_of s.0.now) (prettify_of c.args.sectors.now) (search rules))
+    c.loop-item.yielded c.loop-item.item-iterator c.loop-item.yielded_by c.next.result c.next.new.self c.in-None.is c.next.ensures.steps).1 in
+    λ e. record { number = omega (arith, all, h.count, c.if-items-number.true); text = left_over h.left all (c.only_zeros.ensures.0 e) }

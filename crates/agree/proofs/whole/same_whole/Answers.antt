@@ -24,7 +24,7 @@ count_fats c = c.ceil-k.ensures
 
 count_difats : (c : After-ceil-d) → c.ceil-d.result ≡ difat_count c.args.early.len c.ceil-k.result
 unfolding difat_count
-count_difats c = c.ceil-d.ensures ∙ ap (λ (k : ℕ). ceil k (per_sector c.args.early.len - 1)) c.past_header.ensures
+count_difats c = c.ceil-d.ensures ∙ ap (λ (k : ℕ). ceil k (per_sector c.args.early.len - 1)) c.saturating_sub.ensures
 
 counted : (c : After-ceil-d) → Counted c.args.early.len c.args.early.sectors (length c.args.image.now) c.ceil-k.result c.ceil-d.result
 counted c = lent_counted _ _ _ _ _ _ c.requires.lent (count_fats c) (count_difats c)
@@ -49,7 +49,7 @@ fat_front c = ap (λ (t : Tables). length t.fat) c.front-front.ensures ∙ lengt
 
 pub ceil-d-requires : goal.ceil-d-requires
 ceil-d-requires c =
-    (omega (arith, c.requires.lent.holds.two), omega (arith, c.past_header.ensures, c.ceil-k.ensures, ceil_few c.args.early.sectors (per_sector c.args.early.len) (omega (arith, c.requires.lent.holds.two)), c.requires.lent.short, c.requires.lent.few))
+    (omega (arith, c.requires.lent.holds.two), omega (arith, c.saturating_sub.ensures, c.ceil-k.ensures, ceil_few c.args.early.sectors (per_sector c.args.early.len) (omega (arith, c.requires.lent.holds.two)), c.requires.lent.short, c.requires.lent.few))
 
 pub returns-then-not-tails_zero : goal.returns-then-not-tails_zero
 returns-then-not-tails_zero c =

@@ -20,7 +20,7 @@ module _ (c : After-ceil-d) where
 
   count_difats : c.ceil-d.result ≡ difat_count c.args.s c.ceil-k.result
   unfolding difat_count
-  count_difats = c.ceil-d.ensures ∙ ap (λ (k : ℕ). ceil k (per_sector c.args.s - 1)) c.past_header.ensures
+  count_difats = c.ceil-d.ensures ∙ ap (λ (k : ℕ). ceil k (per_sector c.args.s - 1)) c.saturating_sub.ensures
 
   counted : Counted c.args.s c.args.n (length c.args.image.now) c.ceil-k.result c.ceil-d.result
   counted = zeroed_counted c.requires count_fats count_difats
@@ -34,7 +34,7 @@ module _ (c : After-ceil-d) where
 
 pub ceil-d-requires : goal.ceil-d-requires
 ceil-d-requires c =
-    (omega (arith, c.requires.holds.two), omega (arith, c.past_header.ensures, c.ceil-k.ensures, ceil_few c.args.n (per_sector c.args.s) (omega (arith, c.requires.holds.two)), c.requires.short, c.requires.few))
+    (omega (arith, c.requires.holds.two), omega (arith, c.saturating_sub.ensures, c.ceil-k.ensures, ceil_few c.args.n (per_sector c.args.s) (omega (arith, c.requires.holds.two)), c.requires.short, c.requires.few))
 
 pub slice_bounds-load_tables-end-3 : goal.slice_bounds-load_tables-end-3
 slice_bounds-load_tables-end-3 c = fats_fit (goal.at.slice_bounds-load_tables-end-3 c).After-ceil-d
