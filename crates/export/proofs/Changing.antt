@@ -2,31 +2,27 @@
 use Prim.Native.Nat.{ℕ}
 use mathlib.Core.Path.{◌≡◌, refl, sym, ◌∙◌, ap}
 use mathlib.Core.Bool.{Bool, true, false}
-use mathlib.Core.List.{List, [], ◌∷◌}
+use mathlib.Core.List.{List}
 use lib.Dec.{eqb}
 use lib.ListN.{length, replicate}
 use Rattle.lists.specs.Lists.{choose, Below}
 use Rattle.alloc.specs.Opening.{Tables}
 use Rattle.hand.specs.Hand.{Chain}
 use Rattle.moves.specs.declared.change.Edit.{Edit}
-use Rattle.cfb.specs.Changes.{state_from, tables_in, start_in, Changes, ChainEdits}
+use Rattle.cfb.specs.Changes.{state_from, Changes, ChainEdits}
 use Rattle.consts.specs.Refusals.{ends_with}
 use Rattle.cfb.specs.declared.State.{State}
 use Rattle.cfb.specs.declared.Called.{Called}
 use Rattle.states.specs.States.{state_words, holds, held_in}
 use Rattle.states.specs.Answers.{answer_words, given, held_no}
 use Rattle.states.proofs.Again.{header_fits, state_holds}
-use Rattle.states.proofs.Telling.{number_of_lem, words_of_lem, zeros_given}
+use Rattle.states.proofs.Telling.{number_of_lem, words_of_lem}
 use Rattle.export.specs.Changes.{ChangeGives, EditChainGives}
 
--- the number of a call on words that hold a state, and on words that hold none
+-- the number of a call on words that hold a state
 pub held_number : (words : List ℕ) (k : ℕ) → holds words ≡ true → k ≡ held_no words k
 unfolding held_no
 held_number words k h = rw h
-
-pub unheld_number : (words : List ℕ) (k : ℕ) → holds words ≡ false → 19 ≡ held_no words k
-unfolding held_no
-unheld_number words k h = rw h
 
 -- the words of the state after a change: a refusal leaves those that came in
 words_left : (words : List ℕ) (t : Bool) (s held : State) → state_words held ≡ words → state_words (choose t s held) ≡ choose t (state_words s) words
@@ -34,34 +30,26 @@ words_left words true s held e = refl
 words_left words false s held e = e
 
 -- what a change gives on words that hold no state
-pub change_refused : (words img : List ℕ) (t : Tables) (ids : List ℕ) (k : ℕ) (after : Chain) (bytes : ℕ) (ids' : List ℕ) (b : Bool) → b ≡ holds words → b ≡ false → ids' ≡ replicate (length ids) 0
-    → ChangeGives words img t ids (held_no words k) after bytes 19 (0 ∷ 0 ∷ 0 ∷ []) words img t ids'
-change_refused words img t ids k after bytes ids' b h none z =
-    let e : 19 ≡ held_no words k = unheld_number words k (sym h ∙ none) in
-    record {
-      number = e;
-      answer = zeros_given _ _ _ ∙ ap (λ (n : ℕ). given n after.count (start_in after.ids after.count) bytes) e;
-      state = ap (λ (n : ℕ). choose (eqb n 0) (state_words (state_from (held_in words) after)) words) e;
-      image = ap (λ (n : ℕ). choose (eqb n 0) after.hand.disk.image img) e;
-      tables = ap (λ (n : ℕ). choose (eqb n 0) (tables_in after) t) e;
-      list = z ∙ ap (λ (n : ℕ). choose (eqb n 0) after.ids (choose (eqb n 11) ids (replicate (length ids) 0))) e;
-    }
+pub change_refused : (words img : List ℕ) (t : Tables) (ids : List ℕ) (k : ℕ) (after : Chain) (bytes number : ℕ) (told ids' : List ℕ) → holds words ≡ false → number ≡ 19 → told ≡ replicate 3 0 → ids' ≡ replicate (length ids) 0
+    → ChangeGives words img t ids (held_no words k) after bytes number told words img t ids'
+unfolding held_no given
+change_refused words img t ids k after bytes number told ids' h n a z = rw h (record { number = n; answer = a; state = refl; image = refl; tables = refl; list = z })
 
 -- what it gives on words that hold one
-module _ (words img : List ℕ) (t : Tables) (ids : List ℕ) (s : State) (r : Called) (img' : List ℕ) (t' : Tables) (ids' : List ℕ) (b : Bool) (h : b ≡ holds words) (some : b ≡ true) (e : s ≡ held_in words) (again : state_words s ≡ words)
+module _ (words img : List ℕ) (t : Tables) (ids : List ℕ) (s : State) (r : Called) (img' : List ℕ) (t' : Tables) (ids' : List ℕ) (h : holds words ≡ true) (e : s ≡ held_in words) (again : state_words s ≡ words)
     (no : ℕ) (told words' : List ℕ) (n : no ≡ ends_with r.answer) (w : words' ≡ state_words r.state) (a : told ≡ answer_words r.answer) where
   change_given : (k : ℕ) (after : Chain) (bytes : ℕ) → Changes (held_in words) img t ids k after bytes r img' t' ids' → ChangeGives words img t ids (held_no words k) after bytes no told words' img' t' ids'
+  unfolding held_no
   change_given k after bytes says =
-      let held : holds words ≡ true = sym h ∙ some in
-      let same : k ≡ held_no words k = held_number words k held in
-      record {
-        number = n ∙ number_of_lem r.answer _ _ _ _ says.answer ∙ same;
-        answer = a ∙ words_of_lem r.answer _ _ _ _ says.answer ∙ ap (λ (m : ℕ). given m after.count (start_in after.ids after.count) bytes) same;
-        state = w ∙ ap state_words says.state ∙ words_left words (eqb k 0) (state_from (held_in words) after) (held_in words) (ap state_words (sym e) ∙ again) ∙ ap (λ (m : ℕ). choose (eqb m 0) (state_words (state_from (held_in words) after)) words) same;
-        image = says.image ∙ ap (λ (m : ℕ). choose (eqb m 0) after.hand.disk.image img) same;
-        tables = says.tables ∙ ap (λ (m : ℕ). choose (eqb m 0) (tables_in after) t) same;
-        list = says.list ∙ ap (λ (m : ℕ). choose (eqb m 0) after.ids (choose (eqb m 11) ids (replicate (length ids) 0))) same;
-      }
+      rw h
+      (record {
+        number = n ∙ number_of_lem r.answer _ _ _ _ says.answer;
+        answer = a ∙ words_of_lem r.answer _ _ _ _ says.answer;
+        state = w ∙ ap state_words says.state ∙ words_left words (eqb k 0) (state_from (held_in words) after) (held_in words) (ap state_words (sym e) ∙ again);
+        image = says.image;
+        tables = says.tables;
+        list = says.list;
+      })
 
   pub edit_given : (start : ℕ) (edit : Edit) (buf : List ℕ) → ChainEdits s img t ids start edit buf r img' t' ids' → EditChainGives words img t ids start edit buf no told words' img' t' ids'
   edit_given start edit buf says =

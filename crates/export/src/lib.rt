@@ -21,7 +21,7 @@ use layout::{header_with, mode_of, words_of};
 use lent::{Tables, TablesMut};
 use moves::change::Edit;
 use states::told::{give, words_of_answer};
-use states::{holds_state, state_in, words_of_state};
+use states::{state_of, words_of_state};
 use texts::Text;
 
 // Reads a header: 0, or the number of the refusal; `words` then hold the header, or what stands beside the refusal. Mode 0 is permissive.
@@ -30,11 +30,7 @@ pub fn rasuvelk_read_header(bytes: &[u8], mode: u32, words: &mut [u32; 117]) -> 
     ensures words_after { words.new ≡ words_of (header_left (mode_of mode) bytes.now) }
 {
     let read = Header::read_from(bytes, mode_of(mode));
-    let header = match read {
-        Ok(header) => header,
-        Err(_) => Header::none(),
-    };
-    *words = words_of(header);
+    *words = words_of(read.unwrap_or_else(|_| Header::none()));
     ends_with(&read)
 }
 
@@ -101,10 +97,9 @@ pub fn rasuvelk_open_chain(
 ) -> u32
     ensures { OpenChainGives state.now image.now (record { fat = fat.now; fats = fats.now; difats = difats.now; frees = frees.now; marks = marks.now }) ids.old start result answer.new state.now image.now (record { fat = fat.now; fats = fats.now; difats = difats.now; frees = frees.now; marks = marks.now }) ids.new }
 {
-    let lent = *state;
-    if !holds_state(lent) {
+    let Some(held) = state_of(state) else {
         return refuse_words(ids, answer);
-    }
+    };
     let tables = Tables {
         fat,
         fats,
@@ -112,7 +107,7 @@ pub fn rasuvelk_open_chain(
         frees,
         marks,
     };
-    let called = state_in(lent).open_chain(image, tables, ids, start);
+    let called = held.open_chain(image, tables, ids, start);
     *answer = words_of_answer(called.answer);
     called.number()
 }
@@ -134,10 +129,9 @@ pub fn rasuvelk_read_chain(
 ) -> u32
     ensures { ReadChainGives state.now image.now (record { fat = fat.now; fats = fats.now; difats = difats.now; frees = frees.now; marks = marks.now }) ids.old start offset buf.old result answer.new state.now image.now (record { fat = fat.now; fats = fats.now; difats = difats.now; frees = frees.now; marks = marks.now }) ids.new buf.new }
 {
-    let lent = *state;
-    if !holds_state(lent) {
+    let Some(held) = state_of(state) else {
         return refuse_words(ids, answer);
-    }
+    };
     let tables = Tables {
         fat,
         fats,
@@ -145,7 +139,7 @@ pub fn rasuvelk_read_chain(
         frees,
         marks,
     };
-    let called = state_in(lent).read(image, tables, ids, start, offset, buf);
+    let called = held.read(image, tables, ids, start, offset, buf);
     *answer = words_of_answer(called.answer);
     called.number()
 }
@@ -164,11 +158,10 @@ fn change_chain(
     ensures same { SameTables tables.old tables.new }
     ensures gives { EditChainGives state.old image.old (tables_in tables.old) ids.old start edit buf.now result answer.new state.new image.new (tables_in tables.new) ids.new }
 {
-    let lent = *state;
-    if !holds_state(lent) {
+    let Some(held) = state_of(state) else {
         return refuse_words(ids, answer);
-    }
-    let called = state_in(lent).change(image, tables, ids, start, edit, buf);
+    };
+    let called = held.change(image, tables, ids, start, edit, buf);
     give(called, state, answer)
 }
 

@@ -1,7 +1,9 @@
--- `rasuvelk_open` meets its contract: it gives the number, the words of the state and the tables that the opening leaves.
+-- The number, the words of the state, and the tables are those that the opening leaves.
+use Rattle.std.proofs.Common.{rules}
 use Rattle.export.proofs.Answers.{opening_gives}
 use Rattle.export.proofs.rasuvelk_open.Goals as goal
 
 pub returns : goal.returns
 returns c =
-    opening_gives _ _ _ _ _ _ _ _ _ _ c.mode_of.ensures c.open-opened.ensures c.number.ensures c.words_of_state-held.ensures
+    let told = opening_gives _ _ _ _ _ _ _ _ _ _ c.mode_of.ensures c.open-opened.ensures.opens c.number.ensures c.words_of_state.ensures in
+    search (rules, told)
