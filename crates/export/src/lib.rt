@@ -1,5 +1,6 @@
 // What C and Rust call, by the exports of `export_c`: each takes what it is lent apart, calls the proved library, and gives numbers.
 // None asks anything of its caller: every number and every slice has an answer.
+// kept: tables, words and numbers apart, and the functions twice, here and in `export_c`, as C lends and names them so
 #![tactic(auto)]
 
 ghost use Rattle.std.specs.Prelude.{◌≡◌, length, replicate};

@@ -1,5 +1,6 @@
 // The functions of `export` under their C names: each calls the one of that name there and promises what it does. A static library
 // is made of this crate, and other crates use `export`.
+// kept: the same functions as in `export`, since an exported C name stands only in the crate that makes the static library
 #![tactic(auto)]
 
 ghost use Rattle.std.specs.Prelude.{◌≡◌, length};

@@ -1,4 +1,5 @@
 // The table of the header's fields (MS-CFB 2.2), and the one way to read and to store each.
+// kept: slices of 512 bytes or more, as docs/PROMISES.md names `put_number` and `put_place`, and `[u8; 512]` would ask more of a caller
 #![tactic(auto)]
 
 pub mod entries;

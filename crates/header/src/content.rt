@@ -1,4 +1,5 @@
 // A header's content: out of its bytes, and into them (MS-CFB 2.2).
+// kept: slices of 512 bytes or more, as the README names this module, and `[u8; 512]` would ask more of a caller
 ghost use Rattle.std.specs.Prelude.{◌≡◌, ◌≤◌, length};
 ghost use Rattle.lists.specs.Lists.{splice};
 ghost use Rattle.fields.specs.Fields.{dirs_at, offset_of};

@@ -43,6 +43,7 @@ impl TryFrom<u32> for Version {
 
 impl Version {
     // The major version number.
+    // kept: not a From, which would not say which of the version's three numbers it gives
     pub fn number(self) -> u32
         ensures { result ≡ major_of self }
     {
