@@ -7,6 +7,7 @@ ghost use Rattle.texts.specs.Text.{decimal_of, count_of, range_of, text_of, writ
 use consts::Sector;
 
 // The text of an item: `len` bytes, and zeros after them.
+// kept: 32 bytes and a length, as the C interface gives them: there is no heap for a `String`.
 #[derive(Clone, Copy)]
 pub struct Text {
     pub bytes: [u8; 32],
