@@ -71,11 +71,11 @@ module _ (m : Validation) (img : List ℕ) (used sectors free : ℕ) (h : Header
   -- past the first rows
   module _ (z : refusal (first_rows m img used (shortest t)) ≡ 0) where
     pub agree_told : (strict : Bool) (s c : ℕ) (own : Header) (r : Bool) → strict ≡ is_strict m → s ≡ S → c ≡ n → own ≡ header_of img → same_header h own ≡ true → sectors ≡ c
-        → r ≡ both (eqb (refusal (table_rows strict s img h c)) 0) (tables_held c (open_tables s img h c) free t) → r ≡ agreement m img used sectors free h t
+        → r ≡ both (eqb (refusal (table_rows strict s img own c)) 0) (tables_held c (open_tables s img own c) free t) → r ≡ agreement m img used sectors free h t
     agree_told strict s c own r es e_s en eo eh ec e =
         let mine : same_header h (header_of img) ≡ true = ap (same_header h) (sym eo) ∙ eh in
-        let there : both (eqb (refusal (table_rows strict s img h c)) 0) (tables_held c (open_tables s img h c) free t) ≡ both (eqb (refusal (table_rows (is_strict m) S img (header_of img) n)) 0) held =
-        rw (es, e_s, en, (header_exactly h (header_of img)).0 mine) in
+        let there : both (eqb (refusal (table_rows strict s img own c)) 0) (tables_held c (open_tables s img own c) free t) ≡ both (eqb (refusal (table_rows (is_strict m) S img (header_of img) n)) 0) held =
+        rw (es, e_s, en, eo) in
         e ∙ there ∙ sym (by_tests ∙ rest opens same (eqb sectors n) held mine (eq-eqb sectors n (ec ∙ en)) ∙ ap (λ (k : ℕ). both (eqb k 0) held) (open_then m img used t z))
       where
         rest : (a b c d : Bool) → b ≡ true → c ≡ true → both a (both b (both c d)) ≡ both a d
@@ -88,7 +88,7 @@ module _ (m : Validation) (img : List ℕ) (used sectors free : ℕ) (h : Header
         let mine : h ≡ header_of img = (header_exactly h (header_of img)).0 (ap (same_header h) (sym eo) ∙ eh) in
         let wide : room_of S (length img) ≤ scratch = rw mine at room in
         record {
-          lent = lent_own s S c n _ _ _ _ _ _ e_s en lent;
+          lent = lent_own e_s en lent;
           listed = few;
           below = omega (arith, holds_room S n (length img) lent.holds lent.few);
         }

@@ -1,21 +1,26 @@
 -- The laws of comparisons: headers, and tables that hold a list and then zeros. Assumes nothing.
-use Prim.Native.Nat.{ℕ, ◌-◌, ◌≤◌, ◌<◌}
+use Prim.Native.Nat.{ℕ, ◌-◌, ◌≤◌, ◌<◌, min}
 use mathlib.Core.Path.{◌≡◌, refl, sym, ◌∙◌, ap}
-use mathlib.Core.Bool.{Bool, true, ◌&&◌}
-use mathlib.Core.List.{List, ◌++◌}
-use mathlib.Core.Logic.{◌↔◌}
+use mathlib.Core.Bool.{Bool, true, false, not, ◌&&◌}
+use mathlib.Core.List.{List, [], ◌∷◌, ◌++◌}
+use mathlib.Core.Logic.{◌↔◌, ⊎_elim}
 use native.Mathlib.Omega.{arith}
-use borrow.Author.Tests.{eq-eqb, eqb-true}
+use borrow.Author.Tests.{eq-eqb, eqb-true, not-true, not-false}
 use lib.Dec.{eqb}
-use lib.ListN.{length, get_or, take, drop, replicate, length-drop, length-replicate, get_or-replicate, take-append-drop}
+use lib.ListN.{length, get_or, take, drop, replicate, drop_of_length-le, length-drop, length-replicate, get_or-replicate, take-append-drop}
 use lib.Seq.{ext_get_or, drop_at, take_all}
+use lib.Pointwise.{pointwise}
+use Rattle.std.specs.List.{list_all}
+use Rattle.points.proofs.Folding.{every_all}
 use Rattle.lists.specs.Lists.{both, same_list}
-use Rattle.lists.proofs.Cases.{both_true, both_left, both_right, same_test, every_at, every_of, and_both}
+use Rattle.lists.proofs.Cases.{below_or, both_true, both_left, both_right, same_test, every_at, every_of, and_both}
 use Rattle.lists.proofs.Splice.{same_list_true, same_list_refl}
 use Rattle.header.specs.Versions.{major_of}
 use Rattle.header.specs.declared.Version.{Version}
 use Rattle.header.specs.declared.Version.TheVariants.{V3, V4}
 use Rattle.header.specs.declared.Header.{Header}
+use Rattle.header.specs.contracts.HeaderPartialEq.TheImpl as headers
+use Rattle.header.specs.contracts.VersionPartialEq.TheImpl as versions
 use Rattle.alloc.specs.Opening.{Tables, padded}
 use Rattle.alloc.proofs.Filled.{front_padded}
 use Rattle.points.proofs.Testing.{same_of}
@@ -97,29 +102,61 @@ holds_front t xs k e =
     (λ q. same_of _ _ (padded_of t xs k e (same_list_true _ _ (both_left _ (all_zero (drop k t)) q))
     (same_list_true _ _ (sym (zeros_are (drop k t) (length t - k) (length-drop k t)) ∙ both_right (same_list (take k t) xs) _ q))))
 
--- the eight numbers of two headers, tested one by one
-pub fields_same : (a b : Header) (v w : ℕ) → v ≡ major_of a.version → w ≡ major_of b.version
-    → (eqb v w && (eqb a.dirs b.dirs && (eqb a.fats b.fats && (eqb a.dir b.dir && (eqb a.minifat b.minifat && (eqb a.minifats b.minifats && (eqb a.difat b.difat && eqb a.difats b.difats))))))) ≡ same_fields a b
-unfolding same_fields
-fields_same a b v w e f =
-    all (eqb v w) (eqb a.dirs b.dirs) (eqb a.fats b.fats) (eqb a.dir b.dir) (eqb a.minifat b.minifat) (eqb a.minifats b.minifats) (eqb a.difat b.difat) (eqb a.difats b.difats)
-    ∙ rw (e, f)
-  where
-    all : (p q x y z u k l : Bool) → (p && (q && (x && (y && (z && (u && (k && l))))))) ≡ both p (both q (both x (both y (both z (both u (both k l))))))
-    all p q x y z u k l =
-        and_both p _ ∙ ap (both p) (and_both q _ ∙ ap (both q) (and_both x _ ∙ ap (both x) (and_both y _ ∙ ap (both y) (and_both z _ ∙ ap (both z) (and_both u _ ∙ ap (both u) (and_both k l))))))
-
--- past the end nothing is left
-pub zeros_none : (xs : List ℕ) (k : ℕ) → length xs ≤ k → true ≡ all_zero (drop k xs)
-zeros_none xs k h = sym (zero_of (drop k xs) (λ i l. absurd (omega (arith, length-drop k xs))))
-
--- a rest that was lent as a part
-pub zeros_rest : (xs : List ℕ) (k : ℕ) → all_zero (take (length xs - k) (drop k xs)) ≡ all_zero (drop k xs)
-zeros_rest xs k = ap all_zero (take_all (length xs - k) (drop k xs) (simp length-drop (omega arith)))
-
 -- the rests of five tables
 pub tails_all : (n k d free : ℕ) (t : Tables) (a b c e f : Bool) → a ≡ all_zero (drop n t.fat) → b ≡ all_zero (drop k t.fats) → c ≡ all_zero (drop d t.difats) → e ≡ all_zero (drop free t.frees)
     → f ≡ all_zero (drop n t.marks) → (a && (b && (c && (e && f)))) ≡ tails_zero n k d free t
 unfolding tails_zero
 tails_all n k d free t a b c e f p q u v w =
     and_both a _ ∙ ap (both a) (and_both b _ ∙ ap (both b) (and_both c _ ∙ ap (both c) (and_both e f))) ∙ rw (p, q, u, v, w)
+
+-- two lists compared by the library
+pub slices_same : (a b : List ℕ) → pointwise eqb a b ≡ same_list a b
+unfolding same_list
+slices_same [] [] = refl
+slices_same [] (y ∷ ys) = refl
+slices_same (x ∷ xs) [] = refl
+slices_same (x ∷ xs) (y ∷ ys) = and_both (eqb x y) _ ∙ ap (both (eqb x y)) (slices_same xs ys)
+
+-- the rest of a table that was lent as a part
+pub rest_lent : {A : Type 0} (xs : List A) (k m : ℕ) → m ≡ min k (length xs) → take (length xs - m) (drop m xs) ≡ drop k xs
+rest_lent xs k m e =
+    take_all (length xs - m) (drop m xs) (simp length-drop (omega arith))
+    ∙ ⊎_elim
+    (λ (l : k < length xs). let same : m ≡ k = omega arith in ap (λ (i : ℕ). drop i xs) same)
+    (λ (g : length xs ≤ k). drop_of_length-le xs {i = m} (omega arith) ∙ sym (drop_of_length-le xs {i = k} g))
+    (below_or k (length xs))
+
+-- each is 0
+pub zeros_told : (xs : List ℕ) (z : ℕ) (r : Bool) → z ≡ 0 → r ≡ list_all (λ x. eqb x z) xs → r ≡ all_zero xs
+unfolding all_zero
+zeros_told xs z r n e = e ∙ ap (λ (k : ℕ). list_all (λ x. eqb x k) xs) n ∙ every_all (λ x. eqb x 0) 0 xs
+
+-- and two headers: their versions by number, their numbers one by one, and their lists
+version_eq : (v w : Version) → versions.ghosts.eq v w ≡ eqb (major_of v) (major_of w)
+version_eq V3 V3 = refl
+version_eq V3 V4 = refl
+version_eq V4 V3 = refl
+version_eq V4 V4 = refl
+
+pub header_eq : (a b : Header) → headers.ghosts.eq a b ≡ same_header a b
+unfolding same_header same_fields
+header_eq a b =
+    all (versions.ghosts.eq a.version b.version) (eqb a.dirs b.dirs) (eqb a.fats b.fats) (eqb a.dir b.dir) (eqb a.minifat b.minifat) (eqb a.minifats b.minifats) (eqb a.difat b.difat)
+    (eqb a.difats b.difats) (pointwise eqb a.list b.list)
+    ∙ rw (version_eq a.version b.version, slices_same a.list b.list)
+  where
+    all : (p q x y z u k l m : Bool) → (p && (q && (x && (y && (z && (u && (k && (l && m)))))))) ≡ both (both p (both q (both x (both y (both z (both u (both k l))))))) m
+    all true true true true true true true l m = and_both l m
+    all true true true true true true false l m = refl
+    all true true true true true false k l m = refl
+    all true true true true false u k l m = refl
+    all true true true false z u k l m = refl
+    all true true false y z u k l m = refl
+    all true false x y z u k l m = refl
+    all false q x y z u k l m = refl
+
+pub headers_differ : (a b : Header) (r : Bool) → r ≡ not (headers.ghosts.eq a b) → r ≡ true → same_header a b ≡ false
+headers_differ a b r n t = sym (header_eq a b) ∙ not-true _ (sym n ∙ t)
+
+pub headers_same : (a b : Header) (r : Bool) → r ≡ not (headers.ghosts.eq a b) → r ≡ false → same_header a b ≡ true
+headers_same a b r n f = sym (header_eq a b) ∙ not-false _ (sym n ∙ f)

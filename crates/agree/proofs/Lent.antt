@@ -153,8 +153,8 @@ module _ (strict : Bool) (S : ℕ) (img : List ℕ) (h : Header) (n k d free : �
           (λ q. let w = wholes_true S img h n free t (both_right rows held q) in both_true (eq-eqb _ _ w.count) w.order)
 
 -- the counts of lent tables, and what their fronts ask for
-pub lent_counted : (S n len a b c e g k d : ℕ) → Lent S n len a b c e g → k ≡ fat_count S n → d ≡ difat_count S k → Counted S n len k d
-lent_counted S n len a b c e g k d l ek ed = record { holds = l.holds; short = l.short; few = l.few; fats = ek; difats = ed }
+pub lent_counted : (S n len : ℕ) (t : Tables) (k d : ℕ) → Lent S n len t → k ≡ fat_count S n → d ≡ difat_count S k → Counted S n len k d
+lent_counted S n len t k d l ek ed = record { holds = l.holds; short = l.short; few = l.few; fats = ek; difats = ed }
 
 pub fronts_lent : (S len n k d scratch n' k' d' m : ℕ) → Counted S n len k d → n ≤ scratch → n' ≡ n → k' ≡ k → d' ≡ d → m ≡ n → TablesLent S len n' k' d' m scratch
 fronts_lent S len n k d scratch n' k' d' m c h en ek ed em =

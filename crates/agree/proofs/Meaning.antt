@@ -180,7 +180,7 @@ module _ (m : Validation) (img : List ℕ) (used : ℕ) (t : Tables) (open_is : 
   early : refusal (first_rows m img used (shortest t)) ≡ 0
   early = ⊎_elim (λ (z : refusal (first_rows m img used (shortest t)) ≡ 0). z) (λ d. absurd (d (sym (open_first m img used t d) ∙ open_is))) (same_or (refusal (first_rows m img used (shortest t))) 0)
 
-  lent : Lent size count (length img) (length t.fat) (length t.fats) (length t.difats) (length t.frees) (length t.marks)
+  lent : Lent size count (length img) t
   lent = opens_lent m img used t early
 
   fat_fits : length (open_fat size img (header_of img) count) ≤ length t.fat
@@ -193,10 +193,10 @@ module _ (m : Validation) (img : List ℕ) (used : ℕ) (t : Tables) (open_is : 
   frees_fit = omega (arith, frees_few count (open_fat size img (header_of img) count), lent.frees_long)
 
   fats_fit : length (fats_in size img (header_of img) count) ≤ length t.fats
-  fats_fit = omega (arith, length_fats size img (header_of img) count, lent.fats_long, fats_few size count (length img) (fat_count size count) _ (lent_counted _ _ _ _ _ _ _ _ _ _ lent refl refl))
+  fats_fit = omega (arith, length_fats size img (header_of img) count, lent.fats_long, fats_few size count (length img) (fat_count size count) _ (lent_counted _ _ _ _ _ _ lent refl refl))
 
   difats_fit : length (difats_in size img (header_of img) count) ≤ length t.difats
-  difats_fit = omega (arith, length_difats size img (header_of img) count, lent.difats_long, difats_few size count (length img) (fat_count size count) _ (lent_counted _ _ _ _ _ _ _ _ _ _ lent refl refl))
+  difats_fit = omega (arith, length_difats size img (header_of img) count, lent.difats_long, difats_few size count (length img) (fat_count size count) _ (lent_counted _ _ _ _ _ _ lent refl refl))
 
   -- the tables that are left
   abbrev left : Tables

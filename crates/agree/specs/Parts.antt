@@ -40,6 +40,10 @@ tables_same strict S img h n fat fats difats marks =
     (both (same_list difats (difats_in S img h n))
     (same_list marks (marks_of n (open_fat S img h n))))))
 
+-- the same of tables as long as the FAT; the free list is not looked at
+abbrev pub front_same : Bool → ℕ → List ℕ → Header → Tables → Bool
+front_same strict S img h t = tables_same strict S img h (length t.fat) t.fat t.fats t.difats t.marks
+
 -- each table holds zero past its count
 unfoldable pub tails_zero : ℕ → ℕ → ℕ → ℕ → Tables → Bool
 tails_zero n k d free t =
@@ -90,8 +94,12 @@ pub record TablesLent (S len n k d marks scratch : ℕ) : Type 0 where
   pub marked : marks ≡ n
   pub below : n ≤ scratch
 
+-- the same of tables
+abbrev pub FrontLent : ℕ → ℕ → Tables → ℕ → Type 0
+FrontLent S len t scratch = TablesLent S len (length t.fat) (length t.fats) (length t.difats) (length t.marks) scratch
+
 -- lent tables that are long enough for n sectors of S bytes, and so is the scratch
 pub record WholeLent (S n len : ℕ) (t : Tables) (free scratch : ℕ) : Type 0 where
-  pub lent : Lent S n len (length t.fat) (length t.fats) (length t.difats) (length t.frees) (length t.marks)
+  pub lent : Lent S n len t
   pub listed : free ≤ n
   pub below : n ≤ scratch

@@ -4,7 +4,6 @@ ghost use Rattle.lists.specs.Lists.{both, same_list};
 ghost use Rattle.fat.specs.Lists.{all_below, chain_right, difat_at, difats_of, ends as ends_of, fats_of, fats_right};
 ghost use Rattle.agree.specs.Parts.{ChainLent, ListsLent, PlacesLent, PlacesRoom, ChainRoom, lists_same};
 
-use crate::alike::same_numbers;
 use fat::listed::counts_right;
 use fat::load::{list_difats, list_fats, rest_free};
 use fat::places::different;
@@ -25,7 +24,7 @@ pub fn is_chain(
     if !list_difats(image, s, n, first, room) {
         return false;
     }
-    same_numbers(difats, room)
+    *difats == *room
 }
 
 // Whether the list is the DIFAT chain, and right. The scratch may hold anything before; what it holds after is not said.
@@ -63,7 +62,7 @@ pub fn are_places(
     if !list_fats(image, s, n, list, difats, room) {
         return false;
     }
-    same_numbers(fats, room)
+    *fats == *room
 }
 
 // Whether the list is that of the FAT's sectors, and right. The scratch may hold anything before; what it holds after is not said.

@@ -1,42 +1,34 @@
 -- Lent tables that were zero hold what was loaded into their fronts, and zeros after it. Assumes nothing.
-use Prim.Native.Nat.{ℕ, ◌+◌, ◌-◌, ◌≤◌, ◌<◌}
-use mathlib.Core.Path.{◌≡◌, sym, ◌∙◌, ap}
-use mathlib.Core.Bool.{Bool}
+use Prim.Native.Nat.{ℕ, ◌≤◌}
+use mathlib.Core.Path.{◌≡◌, refl, sym, ◌∙◌, ap}
+use mathlib.Core.Bool.{Bool, true, false}
 use mathlib.Core.List.{List, ◌++◌}
 use native.Mathlib.Omega.{arith}
-use lib.ListN.{length, get_or, take, drop, replicate, length-drop, length-replicate, get_or-replicate}
-use lib.Seq.{ext_get_or, get_or-take, get_or-drop, length-take-le, take_at}
+use lib.ListN.{length, take, drop, replicate, length-replicate}
+use lib.Seq.{take_at}
+use Rattle.std.proofs.lemmas.List.{take-replicate, drop-replicate}
 use Rattle.lists.proofs.Tab.{length_tab}
 use Rattle.header.specs.declared.Header.{Header}
 use Rattle.fat.specs.Lists.{fat_count, difat_count, difats_of, fats_of, difats_in, fats_in}
-use Rattle.judge.specs.Judge.{forgiven_fat, marks_of, frees_of}
+use Rattle.judge.specs.Judge.{forgiven_fat, marks_of}
 use Rattle.fat.specs.Loaded.{Counted}
-use Rattle.alloc.specs.Opened.{TablesLoaded, Zeroed, TablesFilled, AllFilled, AllLoaded, Lent}
-use Rattle.judge.specs.Judged.{Listed}
-use Rattle.alloc.specs.Opening.{open_fat, padded}
-use Rattle.alloc.specs.declared.open.Filled.{Filled}
+use Rattle.alloc.specs.Opened.{TablesLoaded, Zeroed, AllFilled, AllLoaded, Lent}
+use Rattle.std.specs.Prelude.{Result, Ok, Err}
+use Rattle.std.specs.Result.{is_err}
+use Rattle.consts.specs.declared.refusal.Refusal.{Refusal}
+use Rattle.consts.proofs.Refusals.{number_not}
+use Rattle.tables.specs.Tables.{tables_in, zeroed, SameTables}
+use Rattle.tables.specs.declared.TablesMut.{TablesMut}
+use Rattle.alloc.specs.Opening.{Tables, open_fat, padded}
 
--- the front and the rest of a list of zeros
+-- the front of a list of zeros
 pub zero_front : (xs : List ℕ) (n : ℕ) → xs ≡ replicate (length xs) 0 → n ≤ length xs → take n xs ≡ replicate n 0
-zero_front xs n e h =
-    let l : length (take n xs) ≡ n = length-take-le n xs h in
-    ext_get_or 0 (take n xs) (replicate n 0) (l ∙ sym (length-replicate {A = ℕ} n 0))
-    (λ i hi.
-    let low : i < n = omega arith in
-    get_or-take n xs i 0 low ∙ ap (λ (ys : List ℕ). get_or ys i 0) e ∙ get_or-replicate (length xs) i 0 0 (omega arith) ∙ sym (get_or-replicate n i 0 0 low))
-
-pub zero_rest : (xs : List ℕ) (n : ℕ) → xs ≡ replicate (length xs) 0 → drop n xs ≡ replicate (length xs - n) 0
-zero_rest xs n e =
-    let l : length (drop n xs) ≡ length xs - n = length-drop n xs in
-    ext_get_or 0 (drop n xs) (replicate (length xs - n) 0) (l ∙ sym (length-replicate {A = ℕ} (length xs - n) 0))
-    (λ i hi.
-    let low : i < length xs - n = omega arith in
-    get_or-drop n xs i 0 ∙ ap (λ (ys : List ℕ). get_or ys (n + i) 0) e ∙ get_or-replicate (length xs) (n + i) 0 0 (omega arith) ∙ sym (get_or-replicate (length xs - n) i 0 0 low))
+zero_front xs n e h = ap (take n) e ∙ take-replicate n (length xs) 0 h
 
 -- what was put over the front, and zeros after it
-pub put_front : (xs ys front : List ℕ) (n : ℕ) → xs ≡ replicate (length xs) 0 → front ≡ ys → length ys ≡ n → front ++ drop n xs ≡ padded ys (length xs)
+put_front : (xs ys front : List ℕ) (n : ℕ) → xs ≡ replicate (length xs) 0 → front ≡ ys → length ys ≡ n → front ++ drop n xs ≡ padded ys (length xs)
 unfolding padded
-put_front xs ys front n e f l = rw (f, zero_rest xs n e, l)
+put_front xs ys front n e f l = rw (f, ap (drop n) e ∙ drop-replicate n (length xs) 0, l)
 
 -- the lengths of what is loaded
 pub length_open_fat : (S : ℕ) (img : List ℕ) (h : Header) (n : ℕ) → length (open_fat S img h n) ≡ n
@@ -55,23 +47,25 @@ pub length_difats : (S : ℕ) (img : List ℕ) (h : Header) (n : ℕ) → length
 unfolding difats_in difats_of
 length_difats S img h n = length_tab _ (difat_count S (fat_count S n))
 
--- the counts of zeroed tables
-pub zeroed_counted : (S n len : ℕ) (fat fats difats : List ℕ) (scratch : ℕ) (marks : List ℕ) (k d : ℕ) → Zeroed S n len fat fats difats scratch marks → k ≡ fat_count S n → d ≡ difat_count S k → Counted S n len k d
-zeroed_counted S n len fat fats difats scratch marks k d z ek ed = record { holds = z.holds; short = z.short; few = z.few; fats = ek; difats = ed }
+module _ {S n len : ℕ} {t : Tables} (z : Zeroed S n len t) where
+  -- the counts of zeroed tables
+  pub zeroed_counted : {k d : ℕ} → k ≡ fat_count S n → d ≡ difat_count S k → Counted S n len k d
+  zeroed_counted ek ed = record { holds = z.holds; short = z.short; few = z.few; fats = ek; difats = ed }
 
--- the tables, loaded into their fronts
-pub filled : (strict : Bool) (S : ℕ) (img : List ℕ) (h : Header) (n n' k d r len scratch : ℕ) (fat fats difats marks fat' fats' difats' marks' : List ℕ)
-    → Zeroed S n len fat fats difats scratch marks → n' ≡ n → k ≡ fat_count S n → d ≡ difat_count S k → TablesLoaded strict S img h n' r fat' fats' difats' marks'
-    → TablesFilled strict S img h n (length fat) (length fats) (length difats) (length marks) r (fat' ++ drop n fat) (fats' ++ drop k fats) (difats' ++ drop d difats) (marks' ++ drop n marks)
-filled strict S img h n n' k d r len scratch fat fats difats marks fat' fats' difats' marks' z e ek ed t =
-    let l : TablesLoaded strict S img h n r fat' fats' difats' marks' = rw e at t in
-    record {
-      number = l.number;
-      fat_holds = λ q. put_front fat _ fat' n z.fat_zero (l.fat_holds q) (length_open_fat S img h n);
-      fats_hold = λ q. put_front fats _ fats' k z.fats_zero (l.fats_hold q) (length_fats S img h n ∙ sym ek);
-      difats_hold = λ q. put_front difats _ difats' d z.difats_zero (l.difats_hold q) (length_difats S img h n ∙ sym (ed ∙ ap (difat_count S) ek));
-      marks_hold = λ q. put_front marks _ marks' n z.marks_zero (l.marks_hold q) (length_marks n (open_fat S img h n));
-    }
+  -- the tables, loaded into their fronts
+  pub filled : {strict : Bool} {img : List ℕ} {h : Header} {n' k d : ℕ} {r : Result ℕ Refusal} {o : Tables} → n' ≡ n → k ≡ fat_count S n → d ≡ difat_count S k → TablesLoaded strict S img h n' (length t.frees) r o
+      → AllFilled strict S img h n t r (record { fat = o.fat ++ drop n t.fat; fats = o.fats ++ drop k t.fats; difats = o.difats ++ drop d t.difats; frees = o.frees; marks = o.marks ++ drop n t.marks })
+  filled {strict} {img} {h} {r = r} {o} e ek ed loaded =
+      let l : TablesLoaded strict S img h n (length t.frees) r o = rw e at loaded in
+      record {
+        number = l.number;
+        free = l.free;
+        fat_holds = λ q. put_front t.fat _ _ n z.fat_zero (l.fat_holds q) (length_open_fat S img h n);
+        fats_hold = λ q. put_front t.fats _ _ _ z.fats_zero (l.fats_hold q) (length_fats S img h n ∙ sym ek);
+        difats_hold = λ q. put_front t.difats _ _ _ z.difats_zero (l.difats_hold q) (length_difats S img h n ∙ sym (ed ∙ ap (difat_count S) ek));
+        frees_hold = l.frees_hold;
+        marks_hold = λ q. put_front t.marks _ _ n z.marks_zero (l.marks_hold q) (length_marks n (open_fat S img h n));
+      }
 
 -- counts stay right when their numbers are had as lengths
 pub counted_same : (S n len k d n' k' d' : ℕ) → n' ≡ n → k' ≡ k → d' ≡ d → Counted S n len k d → Counted S n' len k' d'
@@ -82,124 +76,70 @@ pub front_padded : (xs now : List ℕ) (n m : ℕ) → now ≡ padded xs m → l
 unfolding padded
 front_padded xs now n m e l = ap (take n) e ∙ take_at xs _ n l
 
--- a count of zeros, had as another number
-pub zeros_as : (xs : List ℕ) (a b : ℕ) → xs ≡ replicate a 0 → a ≡ b → xs ≡ replicate b 0
-zeros_as xs a b e h = e ∙ ap (λ (k : ℕ). replicate k 0) h
+-- zeros are as many as they are, and as many as they were made
+zeros_own : (a : ℕ) → replicate {A = ℕ} a 0 ≡ replicate (length (replicate {A = ℕ} a 0)) 0
+zeros_own a = ap (λ (k : ℕ). replicate k 0) (sym (length-replicate {A = ℕ} a 0))
 
--- the free list, put into a list of zeros
-free_listed : (S : ℕ) (img : List ℕ) (h : Header) (n a e r : ℕ) (fat zeros frees : List ℕ) → fat ≡ padded (open_fat S img h n) a → zeros ≡ replicate e 0 → Listed (take n fat) zeros r frees
-    → (r ≡ length (frees_of n (open_fat S img h n))) × (frees ≡ padded (frees_of n (open_fat S img h n)) e)
-unfolding padded
-free_listed S img h n a e r fat zeros frees ef ez l =
-    let front : take n fat ≡ open_fat S img h n = front_padded (open_fat S img h n) fat n a ef (length_open_fat S img h n) in
-    let count : length (take n fat) ≡ n = ap length front ∙ length_open_fat S img h n in
-    let list : frees_of (length (take n fat)) (take n fat) ≡ frees_of n (open_fat S img h n) = ap (λ (k : ℕ). frees_of k (take n fat)) count ∙ ap (frees_of n) front in
-    let number : r ≡ length (frees_of n (open_fat S img h n)) = l.number ∙ ap length list in
-    let zl : length zeros ≡ e = ap length ez ∙ length-replicate {A = ℕ} e 0 in (
-      number,
-      l.list ∙ ap (λ (x : List ℕ). x ++ drop r zeros) list
-          ∙ ap (λ (x : List ℕ). frees_of n (open_fat S img h n) ++ x)
-          (zero_rest zeros r (ez ∙ ap (λ (k : ℕ). replicate k 0) (sym zl)) ∙ ap (λ (k : ℕ). replicate (k - r) 0) zl ∙ ap (λ (k : ℕ). replicate (e - k) 0) number),
-    )
-
--- every table is loaded once the FREE sectors are listed into zeros
-pub listed_filled : (strict : Bool) (S : ℕ) (img : List ℕ) (h : Header) (n a b c e g r free k : ℕ) (fat fats difats zeros frees marks : List ℕ)
-    → r ≡ 0 → TablesFilled strict S img h n a b c g r fat fats difats marks → zeros ≡ replicate k 0 → k ≡ e → Listed (take n fat) zeros free frees
-    → AllFilled strict S img h n a b c e g (record { no = 0; free = free }) fat fats difats frees marks
-listed_filled strict S img h n a b c e g r free k fat fats difats zeros frees marks z t ez ek l =
-    let f = free_listed S img h n a e free fat zeros frees (t.fat_holds z) (zeros_as zeros k e ez ek) l in
-    record {
-      number = sym z ∙ t.number;
-      free = λ _. f.0;
-      fat_holds = λ _. t.fat_holds z;
-      fats_hold = λ _. t.fats_hold z;
-      difats_hold = λ _. t.difats_hold z;
-      frees_hold = λ _. f.1;
-      marks_hold = λ _. t.marks_hold z;
-    }
-
--- a refused loading says its number, and nothing of the tables
-pub tables_refused : (strict : Bool) (S : ℕ) (img : List ℕ) (h : Header) (n a b c e g r : ℕ) (fat fats difats frees marks : List ℕ)
-    → TablesFilled strict S img h n a b c g r fat fats difats marks → (r ≡ 0 → ⊥) → AllFilled strict S img h n a b c e g (record { no = r; free = 0 }) fat fats difats frees marks
-tables_refused strict S img h n a b c e g r fat fats difats frees marks t z =
-    record {
-      number = t.number;
-      free = λ q. absurd (z q);
-      fat_holds = λ q. absurd (z q);
-      fats_hold = λ q. absurd (z q);
-      difats_hold = λ q. absurd (z q);
-      frees_hold = λ q. absurd (z q);
-      marks_hold = λ q. absurd (z q);
-    }
-
--- a list that is a count of zeros has that length
-pub zeros_length : (xs : List ℕ) (a : ℕ) → xs ≡ replicate a 0 → length xs ≡ a
-zeros_length xs a e = ap length e ∙ length-replicate {A = ℕ} a 0
-
-zeros_own : (xs : List ℕ) (a : ℕ) → xs ≡ replicate a 0 → xs ≡ replicate (length xs) 0
-zeros_own xs a e = e ∙ ap (λ (k : ℕ). replicate k 0) (sym (zeros_length xs a e))
-
-longer : (n a : ℕ) (xs : List ℕ) → n ≤ a → xs ≡ replicate a 0 → n ≤ length xs
-longer n a xs h e = omega (arith, zeros_length xs a e)
+longer : (n a : ℕ) → n ≤ a → n ≤ length (replicate {A = ℕ} a 0)
+longer n a h = omega (arith, length-replicate {A = ℕ} a 0)
 
 -- lent tables that were made zero
-pub lent_zeroed : (S n len a b c e g k : ℕ) (fat fats difats marks : List ℕ) → Lent S n len a b c e g → fat ≡ replicate a 0 → fats ≡ replicate b 0 → difats ≡ replicate c 0 → k ≡ e → marks ≡ replicate g 0
-    → Zeroed S n len fat fats difats k marks
-lent_zeroed S n len a b c e g k fat fats difats marks l z1 z2 z3 z4 z5 =
-    record {
+pub lent_zeroed : {S n len : ℕ} {t t' : Tables} → Lent S n len t → t' ≡ zeroed t → Zeroed S n len t'
+lent_zeroed l e =
+    rw e
+    (record {
       holds = l.holds;
       short = l.short;
       few = l.few;
-      fat_zero = zeros_own fat a z1;
-      fats_zero = zeros_own fats b z2;
-      difats_zero = zeros_own difats c z3;
-      marks_zero = zeros_own marks g z5;
-      fat_long = longer n a fat l.fat_long z1;
-      fats_long = longer n b fats l.fats_long z2;
-      difats_long = longer n c difats l.difats_long z3;
-      scratch_long = omega (arith, l.frees_long);
-      marks_long = longer n g marks l.marks_long z5;
-    }
+      fat_zero = zeros_own _;
+      fats_zero = zeros_own _;
+      difats_zero = zeros_own _;
+      marks_zero = zeros_own _;
+      fat_long = longer _ _ l.fat_long;
+      fats_long = longer _ _ l.fats_long;
+      difats_long = longer _ _ l.difats_long;
+      frees_long = longer _ _ l.frees_long;
+      marks_long = longer _ _ l.marks_long;
+    })
 
--- what was loaded stays so when the lengths are had as other numbers
-pub filled_loaded : (strict : Bool) (S : ℕ) (img : List ℕ) (h : Header) (n a b c e g a' b' c' e' g' : ℕ) (r : Filled) (fat fats difats frees marks : List ℕ)
-    → a' ≡ a → b' ≡ b → c' ≡ c → e' ≡ e → g' ≡ g → r.no ≡ 0 → AllFilled strict S img h n a' b' c' e' g' r fat fats difats frees marks → AllLoaded strict S img h n a b c e g r fat fats difats frees marks
-filled_loaded strict S img h n a b c e g a' b' c' e' g' r fat fats difats frees marks ea eb ec ee eg z f =
-    record {
-      filled = record {
-        number = f.number;
-        free = f.free;
-        fat_holds = λ q. f.fat_holds q ∙ ap (padded _) ea;
-        fats_hold = λ q. f.fats_hold q ∙ ap (padded _) eb;
-        difats_hold = λ q. f.difats_hold q ∙ ap (padded _) ec;
-        frees_hold = λ q. f.frees_hold q ∙ ap (padded _) ee;
-        marks_hold = λ q. f.marks_hold q ∙ ap (padded _) eg;
-      };
-      fat_zero = λ n'. absurd (n' z);
-      fats_zero = λ n'. absurd (n' z);
-      difats_zero = λ n'. absurd (n' z);
-      frees_zero = λ n'. absurd (n' z);
-      marks_zero = λ n'. absurd (n' z);
-    }
+-- tables that are made zero twice, and whose lengths stayed
+pub zeroed_same : {a b : TablesMut} → SameTables a b → zeroed (tables_in b) ≡ zeroed (tables_in a)
+zeroed_same s = rw (s.fat_long, s.fats_long, s.difats_long, s.frees_long, s.marks_long)
 
--- a refused loading says its number, and the tables are zero
-pub refused_loaded : (strict : Bool) (S : ℕ) (img : List ℕ) (h : Header) (n a b c e g a' b' c' e' g' : ℕ) (r : Filled) (fat fats difats frees marks fat' fats' difats' frees' marks' : List ℕ)
-    → (r.no ≡ 0 → ⊥) → AllFilled strict S img h n a' b' c' e' g' r fat' fats' difats' frees' marks' → fat ≡ replicate a 0 → fats ≡ replicate b 0 → difats ≡ replicate c 0 → frees ≡ replicate e 0 → marks ≡ replicate g 0
-    → AllLoaded strict S img h n a b c e g r fat fats difats frees marks
-refused_loaded strict S img h n a b c e g a' b' c' e' g' r fat fats difats frees marks fat' fats' difats' frees' marks' z f z1 z2 z3 z4 z5 =
-    record {
-      filled = record {
-        number = f.number;
-        free = f.free;
-        fat_holds = λ q. absurd (z q);
-        fats_hold = λ q. absurd (z q);
-        difats_hold = λ q. absurd (z q);
-        frees_hold = λ q. absurd (z q);
-        marks_hold = λ q. absurd (z q);
-      };
-      fat_zero = λ _. z1;
-      fats_zero = λ _. z2;
-      difats_zero = λ _. z3;
-      frees_zero = λ _. z4;
-      marks_zero = λ _. z5;
-    }
+-- what was loaded into zeroed tables was loaded into tables of that length
+module _ {strict : Bool} {S : ℕ} {img : List ℕ} {h : Header} {n : ℕ} {t zero t' : Tables} where
+  -- every table is loaded
+  pub filled_loaded : (r : Result ℕ Refusal) → false ≡ is_err r → zero ≡ zeroed t → AllFilled strict S img h n zero r t' → AllLoaded strict S img h n t r t'
+  filled_loaded (Err w) b e filled = absurd (cc)
+  filled_loaded (Ok free) b e filled =
+      let f = rw e at filled in
+      let long = λ (xs : List ℕ). length-replicate {A = ℕ} (length xs) 0 in
+      record {
+        filled = record {
+          number = f.number;
+          free = f.free;
+          fat_holds = λ q. f.fat_holds q ∙ ap (padded _) (long t.fat);
+          fats_hold = λ q. f.fats_hold q ∙ ap (padded _) (long t.fats);
+          difats_hold = λ q. f.difats_hold q ∙ ap (padded _) (long t.difats);
+          frees_hold = λ q. f.frees_hold q ∙ ap (padded _) (long t.frees);
+          marks_hold = λ q. f.marks_hold q ∙ ap (padded _) (long t.marks);
+        };
+        zero = λ q. absurd (q refl);
+      }
+
+  -- a refused loading says its number, and the tables are zero
+  pub refused_loaded : (r : Result ℕ Refusal) → true ≡ is_err r → AllFilled strict S img h n zero r t' → {t'' : Tables} → t'' ≡ zeroed t → AllLoaded strict S img h n t r t''
+  refused_loaded (Ok free) b f z = absurd (cc)
+  refused_loaded (Err w) b f z =
+      record {
+        filled = record {
+          number = f.number;
+          free = tt;
+          fat_holds = λ q. absurd (number_not w q);
+          fats_hold = λ q. absurd (number_not w q);
+          difats_hold = λ q. absurd (number_not w q);
+          frees_hold = λ q. absurd (number_not w q);
+          marks_hold = λ q. absurd (number_not w q);
+        };
+        zero = λ _. z;
+      }

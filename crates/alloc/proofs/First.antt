@@ -9,13 +9,16 @@ use native.Mathlib.Omega.{arith}
 use borrow.Author.Tests.{lt-ltb, le-ltb, eq-eqb, ne_eqb, eqb-true, ltb-false, not-false}
 use lib.Dec.{eqb, ltb}
 use lib.ListN.{length}
-use Rattle.lists.specs.Lists.{choose, either}
+use Rattle.std.specs.Prelude.{Result, Ok, Err}
+use Rattle.lists.specs.Lists.{either}
 use Rattle.lists.specs.Rows.{row, refusal, distinct, fresh}
 use Rattle.lists.proofs.Cases.{same_or, either_right, either_none}
 use Rattle.lists.proofs.Rows.{stop, pass, append_given, append_none, given_none}
 use Rattle.header.specs.Versions.{length_of}
-use Rattle.header.specs.Read.{header_rows, read_rows, read_no, header_of, none, ReadSays}
-use Rattle.header.specs.declared.Read.{Read}
+use Rattle.consts.specs.Refusals.{number_of}
+use Rattle.consts.specs.declared.refusal.Refusal.{Refusal}
+use Rattle.consts.proofs.Refusals.{answers_apart}
+use Rattle.header.specs.Read.{header_rows, read_rows, read_no, header_of}
 use Rattle.header.specs.declared.Version.{Version}
 use Rattle.header.specs.declared.Version.TheVariants.{V3, V4}
 use Rattle.header.specs.declared.Validation.{Validation}
@@ -23,7 +26,7 @@ use Rattle.header.specs.declared.Header.{Header}
 use Rattle.fat.specs.Lists.{most, sectors_in, room_of}
 use Rattle.sectors.specs.Sectors.{Holds}
 use Rattle.alloc.specs.Opening.{first_rows}
-use Rattle.alloc.specs.Early.{EarlySays}
+use Rattle.alloc.specs.Early.{EarlySays, early_of}
 use Rattle.alloc.specs.declared.early.Early.{Early}
 
 module _ (m : Validation) (img : List ℕ) (used short : ℕ) where
@@ -49,69 +52,44 @@ module _ (m : Validation) (img : List ℕ) (used short : ℕ) where
     pub early_header : (w : ℕ) → w ≡ read_no m img → (w ≡ 0 → ⊥) → w ≡ refusal (first_rows m img used short)
     early_header w e n = e ∙ read_is ∙ sym (past_1 ∙ append_given (header_rows m img) _ (λ z. n (e ∙ read_is ∙ z)))
 
-    module _ (read : read_no m img ≡ 0) where
-      past_9 : refusal (first_rows m img used short)
-          ≡ refusal (row 10 (either (not (eqb (used % length_of (header_of img).version) 0)) (ltb most (sectors_in (length_of (header_of img).version) used)))
-          ∷ row 11 (ltb short (room_of (length_of (header_of img).version) (length img))) ∷ [])
+    module _ (read : read_no m img ≡ 0) (S : ℕ) (own : S ≡ length_of (header_of img).version) where
+      past_9 : refusal (first_rows m img used short) ≡ refusal (row 10 (either (not (eqb (used % S) 0)) (ltb most (sectors_in S used))) ∷ row 11 (ltb short (room_of S (length img))) ∷ [])
       unfolding header_rows distinct fresh
-      past_9 = past_1 ∙ append_none (header_rows m img) _ refl (sym read_is ∙ read)
+      past_9 = rw own (past_1 ∙ append_none (header_rows m img) _ refl (sym read_is ∙ read))
 
-      pub early_odd : (used % length_of (header_of img).version ≡ 0 → ⊥) → 10 ≡ refusal (first_rows m img used short)
+      pub early_odd : (used % S ≡ 0 → ⊥) → 10 ≡ refusal (first_rows m img used short)
       early_odd n = sym (past_9 ∙ stop 10 _ _ (rw (ne_eqb _ 0 n)))
 
-      pub early_many : most < sectors_in (length_of (header_of img).version) used → 10 ≡ refusal (first_rows m img used short)
-      early_many h = sym (past_9 ∙ stop 10 _ _ (either_right (not (eqb (used % length_of (header_of img).version) 0)) _ (lt-ltb most _ h)))
+      pub early_many : most < used / S - 1 → 10 ≡ refusal (first_rows m img used short)
+      unfolding sectors_in
+      early_many h = sym (past_9 ∙ stop 10 _ _ (either_right (not (eqb (used % S) 0)) _ (lt-ltb most _ h)))
 
-      module _ (even : used % length_of (header_of img).version ≡ 0) (few : sectors_in (length_of (header_of img).version) used ≤ most) where
-        past_10 : refusal (first_rows m img used short) ≡ refusal (row 11 (ltb short (room_of (length_of (header_of img).version) (length img))) ∷ [])
+      module _ (even : used % S ≡ 0) (few : used / S - 1 ≤ most) where
+        past_10 : refusal (first_rows m img used short) ≡ refusal (row 11 (ltb short (room_of S (length img))) ∷ [])
+        unfolding sectors_in
         past_10 = past_9 ∙ pass 10 _ _ (rw (eq-eqb _ 0 even, le-ltb most _ few))
 
-        pub early_short : short < room_of (length_of (header_of img).version) (length img) → 11 ≡ refusal (first_rows m img used short)
+        pub early_short : short < room_of S (length img) → 11 ≡ refusal (first_rows m img used short)
         early_short h = sym (past_10 ∙ stop 11 _ _ (lt-ltb short _ h))
 
-        pub early_passed : room_of (length_of (header_of img).version) (length img) ≤ short → 0 ≡ refusal (first_rows m img used short)
-        unfolding refusal
-        early_passed h = sym (past_10 ∙ pass 11 _ [] (le-ltb short _ h))
+        pub early_passed : (h : Header) → h ≡ header_of img → room_of S (length img) ≤ short → EarlySays img used m short (Ok (record { len = S; sectors = used / S - 1; header = h }))
+        unfolding refusal early_of sectors_in
+        early_passed h e l = record { number = sym (past_10 ∙ pass 11 _ [] (le-ltb short _ l)); early = rw (own, e) }
 
--- a refusal, and what stands beside it
-pub early_no : (m : Validation) (img : List ℕ) (used short w : ℕ) (r : Early) → r ≡ record { no = w; len = 0; sectors = 0; header = none } → (w ≡ 0 → ⊥)
-    → w ≡ refusal (first_rows m img used short) → EarlySays img used m short r
-early_no m img used short w r e n k =
-    rw e (record { number = k; len = rw (ne_eqb w 0 n); sectors = rw (ne_eqb w 0 n); header = rw (ne_eqb w 0 n) })
-
--- what is said where nothing is refused
-module _ {img : List ℕ} {used : ℕ} {m : Validation} {short : ℕ} {r : Early} (s : EarlySays img used m short r) (z : r.no ≡ 0) where
-  pub early_len : r.len ≡ length_of (header_of img).version
-  early_len = s.len ∙ rw (eq-eqb r.no 0 z)
-
-  pub early_sectors : r.sectors ≡ sectors_in (length_of (header_of img).version) used
-  early_sectors = s.sectors ∙ rw (eq-eqb r.no 0 z)
-
-  pub early_own : r.header ≡ header_of img
-  early_own = s.header ∙ rw (eq-eqb r.no 0 z)
+-- a refusal with its number
+pub early_no : (m : Validation) (img : List ℕ) (used short : ℕ) (e : Refusal) → number_of e ≡ refusal (first_rows m img used short) → EarlySays img used m short (Err e)
+early_no m img used short e k = record { number = k; early = tt }
 
 -- any two permitted results are the same
-pub early_unique : (img : List ℕ) (used : ℕ) (m : Validation) (short : ℕ) (r q : Early) → EarlySays img used m short r → EarlySays img used m short q → r ≡ q
-early_unique img used m short r q s t =
-    let no : r.no ≡ q.no = s.number ∙ sym t.number in
-    let len : r.len ≡ q.len = s.len ∙ ap (λ (k : ℕ). choose (eqb k 0) (length_of (header_of img).version) 0) no ∙ sym t.len in
-    let sectors : r.sectors ≡ q.sectors = s.sectors ∙ ap (λ (k : ℕ). choose (eqb k 0) (sectors_in (length_of (header_of img).version) used) 0) no ∙ sym t.sectors in
-    let header : r.header ≡ q.header = s.header ∙ ap (λ (k : ℕ). choose (eqb k 0) (header_of img) none) no ∙ sym t.header in
-    ap (λ (k : ℕ). record { no = k; len = r.len; sectors = r.sectors; header = r.header }) no
-    ∙ ap (λ (k : ℕ). record { no = q.no; len = k; sectors = r.sectors; header = r.header }) len
-    ∙ ap (λ (k : ℕ). record { no = q.no; len = q.len; sectors = k; header = r.header }) sectors
-    ∙ ap (λ (h : Header). record { no = q.no; len = q.len; sectors = q.sectors; header = h }) header
-
--- a header that was read is the image's own
-pub read_header : (m : Validation) (img : List ℕ) (r : Read) → ReadSays img m r → read_no m img ≡ 0 → r.header ≡ header_of img
-read_header m img r s e = s.header ∙ rw (eq-eqb (read_no m img) 0 e)
+pub early_unique : (img : List ℕ) (used : ℕ) (m : Validation) (short : ℕ) (r q : Result Early Refusal) → EarlySays img used m short r → EarlySays img used m short q → r ≡ q
+early_unique img used m short r q s t = answers_apart r q (early_of img used) (s.number ∙ sym t.number) s.early t.early
 
 -- a sector is not empty, and whole sectors that hold something are one at least
-pub length_some : (v : Version) → 512 ≤ length_of v
+length_some : (v : Version) → 512 ≤ length_of v
 length_some V3 = omega arith
 length_some V4 = omega arith
 
-pub one_whole : (used s : ℕ) → 1 ≤ used → used % s ≡ 0 → 1 ≤ used / s
+one_whole : (used s : ℕ) → 1 ≤ used → used % s ≡ 0 → 1 ≤ used / s
 one_whole used s h e =
     ⊎_elim
     (λ (z : used / s ≡ 0). absurd (omega (arith, div-add-mod' used s, ap (λ (q : ℕ). q * s) z, zero-mul s)))

@@ -1,5 +1,5 @@
 -- The opening of an image (document 01, "Opening an image"), as a function that computes. Assumes nothing.
-use Rattle.std.specs.Prelude.{ℕ, ◌-◌, ◌%◌, min, Bool, not, List, [], ◌∷◌, ◌++◌, eqb, ltb, leb, length, replicate}
+use Rattle.std.specs.Prelude.{ℕ, ◌-◌, ◌%◌, Bool, not, List, [], ◌∷◌, ◌++◌, eqb, ltb, leb, length, replicate}
 use Rattle.lists.specs.Lists.{choose, either}
 use Rattle.lists.specs.Rows.{Row, row, refusal}
 use Rattle.header.specs.Versions.{length_of, is_strict}
@@ -7,15 +7,9 @@ use Rattle.header.specs.Read.{header_rows, header_of}
 use Rattle.header.specs.declared.Validation.{Validation}
 use Rattle.header.specs.declared.Header.{Header}
 use Rattle.fat.specs.Lists.{most, sectors_in, room_of, fat_of, difats_in, fats_in, lists_right, tail_free}
+pub use Rattle.tables.specs.Tables.{Tables}
+unfoldable pub use Rattle.tables.specs.Tables.{shortest}
 use Rattle.judge.specs.Judge.{marked_fat, forgiven_fat, marks_of, frees_of, fat_rows}
-
--- the tables of an opened image
-pub record Tables : Type 0 where
-  pub fat : List ℕ
-  pub fats : List ℕ
-  pub difats : List ℕ
-  pub frees : List ℕ
-  pub marks : List ℕ
 
 -- the FAT as the bytes have it, and with its listed sectors marked
 unfoldable pub raw_fat : ℕ → List ℕ → Header → ℕ → List ℕ
@@ -30,10 +24,6 @@ judged_fat S img h n = marked_fat (raw_fat S img h n) (difats_in S img h n) (fat
 unfoldable pub open_fat : ℕ → List ℕ → Header → ℕ → List ℕ
 unfolding judged_fat forgiven_fat
 open_fat S img h n = forgiven_fat n (judged_fat S img h n)
-
--- the length of the shortest table
-unfoldable pub shortest : Tables → ℕ
-shortest t = min (length t.fat) (min (length t.fats) (min (length t.difats) (min (length t.frees) (length t.marks))))
 
 -- the tables of an image that opens: the FAT with its forgiveness, the lists, the FREE sectors ascending, the marks
 unfoldable pub open_tables : ℕ → List ℕ → Header → ℕ → Tables

@@ -1,5 +1,5 @@
 -- What it is for the library to agree with a record of a reading, a writing or a short list. Assumes nothing.
-use Rattle.std.specs.Prelude.{◌≡◌, ℕ, ◌+◌, ◌*◌, ◌%◌, ◌≤◌, List, [], ◌∷◌, length, take, ◌==◌, slice_index, slice_index_or}
+use Rattle.std.specs.Prelude.{◌≡◌, Ok, ℕ, ◌+◌, ◌*◌, ◌%◌, ◌≤◌, List, [], ◌∷◌, length, take, ◌==◌, slice_index, slice_index_or}
 use Rattle.lists.specs.Lists.{choose, tab, part, splice}
 use Rattle.words.specs.Words.{le}
 use Rattle.consts.specs.Pretty.{prettify_of}
@@ -9,14 +9,13 @@ use Rattle.header.specs.Versions.{numbered_of}
 use Rattle.header.specs.Read.{read_no, header_left}
 use Rattle.header.specs.Write.{write_no, header_bytes}
 use Rattle.header.specs.declared.Version.{Version}
-use Rattle.header.specs.declared.Numbered.TheVariants.{Known}
 use Rattle.header.specs.declared.Header.{Header}
 use Rattle.records.specs.Records.{length_in, number_in, mode_in, numbers_in, header_in}
 
 -- the reader gives the number and the words of the record
 pub record ReadAgrees (b : List ℕ) : Type 0 where
   pub version : Version
-  pub named : numbered_of (le 4 b 552) ≡ Known version
+  pub named : numbered_of (le 4 b 552) ≡ Ok version
   pub number : read_no (mode_in b) (part b 8 (length_in b)) ≡ number_in b
   pub words : header_left (mode_in b) (part b 8 (length_in b)) ≡ header_in version (part b 552 468)
 
@@ -32,7 +31,7 @@ after h n = choose (write_no h n == 0) (splice (before n) 0 (header_bytes h)) (b
 -- the writer gives the number and the bytes of the record
 pub record WriteAgrees (b : List ℕ) : Type 0 where
   pub version : Version
-  pub named : numbered_of (le 4 b 8) ≡ Known version
+  pub named : numbered_of (le 4 b 8) ≡ Ok version
   pub number : write_no (header_in version (part b 8 468)) (length_in b) ≡ number_in b
   pub bytes : after (header_in version (part b 8 468)) (length_in b) ≡ part b 476 (length_in b)
 

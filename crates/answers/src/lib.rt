@@ -5,7 +5,8 @@ ghost use Rattle.std.specs.Prelude.{◌≡◌, true, ◌∷◌, ◌++◌, length
 ghost use Rattle.header.specs.Write.{write_no};
 ghost use Rattle.answers.specs.Answers.{ReadAgrees, WriteAgrees, ListAgrees, ListedAs, before, after as after_of};
 
-use header::{Header, Numbered, Version};
+use consts::refusal::ends_with;
+use header::{Header, Version};
 use records::{RECORD, header_in, length_in, mode_in, number_in, same_header, take_numbers};
 use texts::Text;
 
@@ -19,15 +20,13 @@ pub fn same_read(case: &[u8; RECORD]) -> bool
     }
     let end = 8 + len;
     let read = Header::read_from(&case[8..end], mode_in(case));
-    let verdict = read.verdict;
-    if verdict.number() != number_in(case) {
+    if ends_with(&read) != number_in(case) {
         return false;
     }
-    let numbered = Version::from_number(words::read32(case, 552));
-    let Numbered::Known(version) = numbered else {
+    let Ok(version) = Version::try_from(words::read::<4>(case, 552)) else {
         return false;
     };
-    let header = read.header;
+    let header = read.unwrap_or(Header::none());
     same_header(header, header_in(version, &case[552..1020]))
 }
 
@@ -47,8 +46,8 @@ fn written_as(h: Header, buf: &mut [u8], number: u32, after: &[u8]) -> bool
     ensures { result ≡ true → (write_no h (length buf.old) ≡ number) × (after_of h (length buf.old) ≡ after.now) }
 {
     put_before(buf);
-    let verdict = h.write_to(buf);
-    verdict.number() == number && words::same(buf, after)
+    let written = h.write_to(buf);
+    ends_with(&written) == number && &*buf == after
 }
 
 // Whether the writer gives the number and the bytes of a W record: the words from 8 on, the bytes from 476 on.
@@ -59,8 +58,7 @@ pub fn same_write(case: &[u8; RECORD]) -> bool
     if 540 < len {
         return false;
     }
-    let numbered = Version::from_number(words::read32(case, 8));
-    let Numbered::Known(version) = numbered else {
+    let Ok(version) = Version::try_from(words::read::<4>(case, 8)) else {
         return false;
     };
     let header = header_in(version, &case[8..476]);

@@ -4,7 +4,7 @@ use mathlib.Core.Path.{◌≡◌, refl, sym, ◌∙◌, ap}
 use mathlib.Core.Bool.{true, false, not}
 use mathlib.Core.List.{List}
 use native.Mathlib.Omega.{arith}
-use borrow.Author.Tests.{eq-eqb, ne_eqb, lt-ltb, le-ltb, ltb-false}
+use borrow.Author.Tests.{ne_eqb, lt-ltb, le-ltb, ltb-false}
 use lib.Dec.{eqb, ltb}
 use lib.ListN.{length, take, replicate}
 use lib.Seq.{take_at}
@@ -17,13 +17,16 @@ use Rattle.alloc.specs.Opening.{Tables, shortest, padded}
 use Rattle.agree.specs.Agree.{agreement}
 use Rattle.walk.specs.Steps.{Once}
 use Rattle.walk.specs.Walk.{Outcome, lists, refuses, walk_of}
-use Rattle.walk.specs.Walked.{answer_of, WalkLeft}
-use Rattle.walk.specs.declared.Walked.{Walked}
-use Rattle.walk.specs.declared.Walked.TheVariants.{Listed, Refused}
+use Rattle.walk.specs.Walked.{StandsFor, WalkLeft}
+use Rattle.std.specs.Prelude.{Result, Ok, Err}
+use Rattle.consts.specs.Refusals.{number_of}
+use Rattle.consts.specs.declared.refusal.Refusal.{Refusal}
+use Rattle.consts.specs.declared.refusal.Refusal.TheVariants.{ShortTable, Disagrees}
+use Rattle.consts.proofs.Refusals.{refusal_ends, value_ends, number_not}
 use Rattle.walk.proofs.Walking.{Fate, past, ended, broken, back, spent, fate}
 use Rattle.walk.proofs.Exactly.{never_spent}
 use Rattle.cfb.specs.Calls.{outcome_no, outcome_ids, state_len, walked, agreed_rows, walk_rows, chain_rows, chain_no, chain_ids, ids_left}
-use Rattle.cfb.specs.Listed.{cleared, walked_as, ChainListed}
+use Rattle.cfb.specs.Listed.{cleared, ChainListed}
 use Rattle.cfb.specs.declared.State.{State}
 
 -- what a walk that is not spent can come to
@@ -85,33 +88,25 @@ left_zero : (k : ℕ) (ids xs : List ℕ) → (k ≡ 0 → ⊥) → (k ≡ 11 �
 unfolding ids_left
 left_zero k ids xs n m = rw (ne_eqb k 0 n, ne_eqb k 11 m)
 
-answer_refused : (k count : ℕ) → (k ≡ 0 → ⊥) → Refused k ≡ walked_as k count
-unfolding walked_as
-answer_refused k count n = rw (ne_eqb k 0 n)
-
-answer_listed : (k count : ℕ) → k ≡ 0 → Listed count ≡ walked_as k count
-unfolding walked_as
-answer_listed k count z = rw (eq-eqb k 0 z)
-
 module _ (s : State) (img : List ℕ) (t : Tables) (ids : List ℕ) (start : ℕ) where
-  refused_so : (k : ℕ) (after : List ℕ) → chain_no s img t (length ids) start ≡ k → (k ≡ 0 → ⊥) → after ≡ ids_left k ids (chain_ids s t start) → ChainListed s img t ids start (Refused k) after
-  refused_so k after e n l = record {
-    answer = answer_refused k _ n ∙ ap (λ (x : ℕ). walked_as x (length (chain_ids s t start))) (sym e);
-    list = l ∙ ap (λ (x : ℕ). ids_left x ids (chain_ids s t start)) (sym e);
+  refused_so : (e : Refusal) (after : List ℕ) → chain_no s img t (length ids) start ≡ number_of e → after ≡ ids_left (number_of e) ids (chain_ids s t start) → ChainListed s img t ids start (Err e) after
+  refused_so e after n l = record {
+    answer = refusal_ends e (sym n);
+    list = l ∙ ap (λ (x : ℕ). ids_left x ids (chain_ids s t start)) (sym n);
   }
 
   -- a table or the id list is too short
-  pub listed_short : ltb (min (shortest t) (length ids)) (room_of (state_len s) (length img)) ≡ true → ChainListed s img t ids start (Refused 11) ids
+  pub listed_short : ltb (min (shortest t) (length ids)) (room_of (state_len s) (length img)) ≡ true → ChainListed s img t ids start (Err ShortTable) ids
   unfolding chain_no chain_rows agreed_rows
-  listed_short h = refused_so 11 ids (stop 11 _ _ h) (omega arith) (left_alone ids _)
+  listed_short h = refused_so ShortTable ids (stop 11 _ _ h) (left_alone ids _)
 
   module _ (long : ltb (min (shortest t) (length ids)) (room_of (state_len s) (length img)) ≡ false) where
     -- state and tables are not what an opening gives
     pub listed_apart : (after : List ℕ) → agreement s.mode img s.used s.sectors s.free s.header t ≡ false → after ≡ replicate (length ids) 0
-        → ChainListed s img t ids start (Refused 19) after
+        → ChainListed s img t ids start (Err Disagrees) after
     unfolding chain_no chain_rows agreed_rows
     listed_apart after f e =
-        refused_so 19 after (pass 11 _ _ long ∙ stop 19 _ _ (ap not f)) (omega arith) (e ∙ left_zero 19 ids _ (omega arith) (omega arith))
+        refused_so Disagrees after (pass 11 _ _ long ∙ stop 19 _ _ (ap not f)) (e ∙ left_zero 19 ids _ (omega arith) (omega arith))
 
     module _ (same : agreement s.mode img s.used s.sectors s.free s.header t ≡ true)
         (few : length (take s.sectors t.fat) ≤ max_regular) (once : Once (take s.sectors t.fat)) where
@@ -119,37 +114,38 @@ module _ (s : State) (img : List ℕ) (t : Tables) (ids : List ℕ) (start : ℕ
       unfolding chain_no chain_rows agreed_rows walked
       number = pass 11 _ _ long ∙ pass 19 _ _ (ap not same) ∙ walk_rows_lem (walked s t start) (walk_number _ start few once)
 
-      -- the walk, with zeros past its ids
       -- an id list that is cleared, by the walk's answer
-      cleared_listed : (r : Walked) (mid : List ℕ) (count : ℕ) → r ≡ Listed count → cleared r mid ≡ padded (take count mid) (length mid)
+      cleared_listed : (r : Result ℕ Refusal) (mid : List ℕ) (count : ℕ) → r ≡ Ok count → cleared r mid ≡ padded (take count mid) (length mid)
       unfolding cleared
       cleared_listed r mid count e = rw e
 
-      cleared_refused : (r : Walked) (mid : List ℕ) (k : ℕ) → r ≡ Refused k → cleared r mid ≡ replicate (length mid) 0
+      cleared_refused : (r : Result ℕ Refusal) (mid : List ℕ) (k : Refusal) → r ≡ Err k → cleared r mid ≡ replicate (length mid) 0
       unfolding cleared padded
       cleared_refused r mid k e =
           let all : length mid - 0 ≡ length mid = omega arith in
-          ap (λ (x : Walked). cleared x mid) e ∙ ap (λ (n : ℕ). replicate n 0) all
+          ap (λ (x : Result ℕ Refusal). cleared x mid) e ∙ ap (λ (n : ℕ). replicate n 0) all
 
-      pub listed_walked : (before mid after : List ℕ) (r : Walked) → length before ≡ length ids → WalkLeft (take s.sectors t.fat) start before r mid → length mid ≡ length before
+      -- the walk, with zeros past its ids
+      pub listed_walked : (before mid after : List ℕ) (r : Result ℕ Refusal) → length before ≡ length ids → WalkLeft (take s.sectors t.fat) start before r mid → length mid ≡ length before
           → after ≡ cleared r mid → ChainListed s img t ids start r after
-      unfolding chain_ids outcome_ids outcome_no walked answer_of
-      listed_walked before mid after r l w lm e = at (walked s t start) refl (walk_number _ start few once)
+      unfolding chain_ids outcome_ids outcome_no walked
+      listed_walked before mid after r l w lm e = at (walked s t start) refl (walk_number _ start few once) w.answer
         where
-          at : (o : Outcome) → walk_of (take s.sectors t.fat) start ≡ o → Number (outcome_no (walk_of (take s.sectors t.fat) start)) → ChainListed s img t ids start r after
-          at (lists xs) q k =
+          at : (o : Outcome) → walk_of (take s.sectors t.fat) start ≡ o → Number (outcome_no (walk_of (take s.sectors t.fat) start)) → StandsFor (walk_of (take s.sectors t.fat) start) r → ChainListed s img t ids start r after
+          at (lists xs) q k a =
               let z : chain_no s img t (length ids) start ≡ 0 = number ∙ ap outcome_no q in
               let mine : chain_ids s t start ≡ xs = ap outcome_ids q in
+              let is : r ≡ Ok (length xs) = rw q at a in
               let front : take (length xs) mid ≡ xs = ap (take (length xs)) (w.front xs q) ∙ take_at xs _ (length xs) refl in
               record {
-                answer = w.answer ∙ ap answer_of q ∙ ap (λ (x : List ℕ). Listed (length x)) (sym mine) ∙ answer_listed _ (length (chain_ids s t start)) z;
-                list = e ∙ cleared_listed r mid (length xs) (w.answer ∙ ap answer_of q) ∙ ap (λ (x : List ℕ). padded x (length mid)) front ∙ ap (padded xs) (lm ∙ l) ∙ left_listed ids xs
+                answer = rw is (value_ends (length xs) z (ap length (sym mine)));
+                list = e ∙ cleared_listed r mid (length xs) is ∙ ap (λ (x : List ℕ). padded x (length mid)) front ∙ ap (padded xs) (lm ∙ l) ∙ left_listed ids xs
                     ∙ ap (ids_left 0 ids) (sym mine) ∙ ap (λ (n : ℕ). ids_left n ids (chain_ids s t start)) (sym z);
               }
-          at (refuses x) q k =
-              let e0 : chain_no s img t (length ids) start ≡ x = number ∙ ap outcome_no q in
-              let given : Number x = rw (ap outcome_no q) at k in
-              let some : x ≡ 0 → ⊥ = λ z. never_spent _ start few once (q ∙ ap refuses z) in
-              let zeros : after ≡ replicate (length ids) 0 = e ∙ cleared_refused r mid x (w.answer ∙ ap answer_of q) ∙ ap (λ (n : ℕ). replicate n 0) (lm ∙ l) in
-              let so : ChainListed s img t ids start (Refused x) after = refused_so x after e0 some (zeros ∙ left_zero x ids _ some (not_eleven given)) in
-              rw (w.answer ∙ ap answer_of q) so
+          at (refuses x) q k a =
+              let told : (f : Refusal) × (r ≡ Err f) × (number_of f ≡ x) = rw q at a in
+              let e0 : chain_no s img t (length ids) start ≡ number_of told.0 = number ∙ ap outcome_no q ∙ sym told.2 in
+              let given : Number (number_of told.0) = rw (ap outcome_no q ∙ sym told.2) at k in
+              let zeros : after ≡ replicate (length ids) 0 = e ∙ cleared_refused r mid told.0 told.1 ∙ ap (λ (n : ℕ). replicate n 0) (lm ∙ l) in
+              let so : ChainListed s img t ids start (Err told.0) after = refused_so told.0 after e0 (zeros ∙ left_zero (number_of told.0) ids _ (number_not told.0) (not_eleven given)) in
+              rw told.1 so

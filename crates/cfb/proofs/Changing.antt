@@ -12,22 +12,21 @@ use lib.ListN.{length, replicate}
 use Rattle.lists.specs.Lists.{choose}
 use Rattle.fat.specs.Lists.{room_of}
 use Rattle.alloc.specs.Opening.{Tables, padded}
-use Rattle.walk.specs.declared.Walked.{Walked}
-use Rattle.walk.specs.declared.Walked.TheVariants.{Listed, Refused}
+use Rattle.std.specs.Prelude.{Result, Ok, Err}
+use Rattle.consts.specs.Refusals.{number_of}
+use Rattle.consts.specs.declared.refusal.Refusal.{Refusal}
+use Rattle.consts.proofs.Refusals.{ends_refused, ends_accepted}
 use Rattle.hand.specs.Hand.{Chain}
 use Rattle.hand.specs.Fits.{FitsChain}
 use Rattle.moves.proofs.Changing.{chain_room}
 use Rattle.moves.specs.Change.{seek_of, edit_more, edited, FitsEdit}
-use Rattle.moves.specs.declared.change.Changed.{Changed}
 use Rattle.moves.specs.declared.change.Edit.{Edit}
 use Rattle.moves.specs.declared.change.Edit.TheVariants.{Write, Resize}
 use Rattle.cfb.specs.Calls.{state_len, chain_ids, ids_left, told_by}
 use Rattle.cfb.specs.Changes.{no_room, resize_rows, resize_no, write_rows, write_no, edit_no, chain_from, state_from, tables_in, start_in, Changes, Judged, done_with}
-use Rattle.cfb.specs.Listed.{answer_from}
 use Rattle.cfb.specs.declared.State.{State}
 use Rattle.cfb.specs.declared.Called.{Called}
-use Rattle.cfb.specs.declared.Answer.{Answer}
-use Rattle.cfb.proofs.Answering.{told_refused, told_done, told_apart, walked_refused, walked_listed}
+use Rattle.cfb.proofs.Answering.{told_refused, told_done, told_apart}
 use Rattle.cfb.proofs.Fitted.{hand_in}
 use Rattle.cfb.proofs.Judging.{row_passed, rows_passed}
 use Rattle.cfb.proofs.Ready.{ready_fits, ready_apart}
@@ -39,11 +38,11 @@ left_as k a b n = ap (λ (t : Bool). choose t a b) (sym (ne_eqb k 0 n))
 made_as : {A : Type 0} (k : ℕ) (a b : A) → k ≡ 0 → a ≡ choose (eqb k 0) a b
 made_as k a b z = ap (λ (t : Bool). choose t a b) (sym (eq-eqb k 0 z))
 
--- a change that was made
-pub changes_made : (s : State) (img : List ℕ) (t : Tables) (ids : List ℕ) (k : ℕ) (after : Chain) (bytes : ℕ) (r : Called) (img' : List ℕ) (t' : Tables) (ids' : List ℕ) (c : Changed)
-    → k ≡ 0 → record { hand = hand_in img' c.sectors c.free t'; ids = ids'; count = c.ids } ≡ after → r ≡ done_with s img' ids' c bytes → Changes s img t ids k after bytes r img' t' ids'
-unfolding done_with state_from tables_in
-changes_made s img t ids k after bytes r img' t' ids' c z e q = record {
+-- a change that was made: of a chain in hand, and the image that is its disk's
+pub changes_made : (s : State) (img : List ℕ) (t : Tables) (ids : List ℕ) (k : ℕ) (after : Chain) (bytes : ℕ) (r : Called) (c : Chain)
+    → k ≡ 0 → c ≡ after → r ≡ done_with s c.hand.disk.image c.hand.disk.sectors c.hand.free c.ids c.count bytes → Changes s img t ids k after bytes r c.hand.disk.image (tables_in c) c.ids
+unfolding done_with state_from
+changes_made s img t ids k after bytes r c z e q = record {
   answer = ap (λ (x : Called). told_by x.answer) q ∙ ap (λ (x : Chain). 0 ∷ x.count ∷ start_in x.ids x.count ∷ bytes ∷ []) e ∙ told_done k _ _ _ z;
   state = ap (λ (x : Called). x.state) q ∙ ap (state_from s) e ∙ made_as k _ s z;
   image = ap (λ (x : Chain). x.hand.disk.image) e ∙ made_as k _ img z;
@@ -59,33 +58,32 @@ left_made : (k : ℕ) (ids xs : List ℕ) → k ≡ 0 → ids_left k ids xs ≡ 
 unfolding ids_left
 left_made k ids xs z = sym (made_as k (padded xs (length ids)) _ z)
 
-module _ (k : ℕ) (ids chain : List ℕ) (w : Walked) (ids' : List ℕ) (l : Judged k ids chain w ids') where
+module _ (k : ℕ) (ids chain : List ℕ) (w : Result ℕ Refusal) (ids' : List ℕ) (l : Judged k ids chain w ids') where
   -- a change that is refused
-  pub changes_refused : (s : State) (img : List ℕ) (t : Tables) (start : ℕ) (after : Chain) (bytes j : ℕ) (a : Answer) → w ≡ Refused j → a ≡ answer_from w start 0
-      → Changes s img t ids k after bytes (record { answer = a; state = s }) img t ids'
-  unfolding answer_from
-  changes_refused s img t start after bytes j a e f =
-      let told-by = walked_refused _ _ j (sym e ∙ l.answer) in
+  pub changes_refused : (s : State) (img : List ℕ) (t : Tables) (after : Chain) (bytes : ℕ) (e : Refusal) → w ≡ Err e
+      → Changes s img t ids k after bytes (record { answer = Err e; state = s }) img t ids'
+  changes_refused s img t after bytes e q =
+      let known = ends_refused l.answer e q in
       record {
-        answer = ap told_by (f ∙ ap (λ (x : Walked). answer_from x start 0) e) ∙ ap (λ (n : ℕ). n ∷ []) told-by.1 ∙ told_refused _ _ _ _ told-by.0;
-        state = left_as _ _ s told-by.0;
-        image = left_as _ _ img told-by.0;
-        tables = left_as _ _ t told-by.0;
-        list = l.list ∙ left_refused k ids chain told-by.0 ∙ left_as _ _ _ told-by.0;
+        answer = ap (λ (n : ℕ). n ∷ []) known.1 ∙ told_refused _ _ _ _ known.0;
+        state = left_as _ _ s known.0;
+        image = left_as _ _ img known.0;
+        tables = left_as _ _ t known.0;
+        list = l.list ∙ left_refused k ids chain known.0 ∙ left_as _ _ _ known.0;
       }
 
   -- one that is not
-  pub judged_zero : (c : ℕ) → w ≡ Listed c → k ≡ 0
-  judged_zero c e = (walked_listed _ _ c (sym e ∙ l.answer)).0
+  pub judged_zero : (c : ℕ) → w ≡ Ok c → k ≡ 0
+  judged_zero c e = (ends_accepted l.answer c e).0
 
 -- the chain that was listed is the one in hand
-pub judged_chain : (s : State) (img : List ℕ) (t : Tables) (ids : List ℕ) (start k : ℕ) (w : Walked) (ids' : List ℕ) → Judged k ids (chain_ids s t start) w ids' → (c : ℕ) → w ≡ Listed c
+pub judged_chain : (s : State) (img : List ℕ) (t : Tables) (ids : List ℕ) (start k : ℕ) (w : Result ℕ Refusal) (ids' : List ℕ) → Judged k ids (chain_ids s t start) w ids' → (c : ℕ) → w ≡ Ok c
     → record { hand = hand_in img s.sectors s.free t; ids = ids'; count = c } ≡ chain_from s img t (length ids) start
 unfolding chain_from
 judged_chain s img t ids start k w ids' l c e =
-    let told-by = walked_listed _ _ c (sym e ∙ l.answer) in
-    let mine : ids' ≡ padded (chain_ids s t start) (length ids) = l.list ∙ left_made k ids (chain_ids s t start) told-by.0 in
-    rw (mine, told-by.1)
+    let known = ends_accepted l.answer c e in
+    let mine : ids' ≡ padded (chain_ids s t start) (length ids) = l.list ∙ left_made k ids (chain_ids s t start) known.0 in
+    rw (mine, known.1)
 
 -- an edit that nothing stands against can be made
 pub edit_ready : (s : State) (img : List ℕ) (t : Tables) (room start : ℕ) (edit : Edit) (bytes : ℕ) → edit_no s img t room start edit bytes ≡ 0

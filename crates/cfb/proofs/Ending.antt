@@ -13,17 +13,16 @@ use Rattle.lists.proofs.Cases.{below_or}
 use Rattle.consts.specs.Consts.{end_of_chain}
 use Rattle.header.specs.Read.{header_of}
 use Rattle.header.specs.declared.Header.{Header}
+use Rattle.std.specs.Prelude.{Ok}
 use Rattle.fat.specs.Lists.{room_of}
 use Rattle.disk.specs.Disk.{count_after}
 use Rattle.disk.proofs.Fitting.{count_none}
-use Rattle.moves.specs.declared.change.Changed.{Changed}
 use Rattle.moves.specs.Change.{bytes_of}
 use Rattle.moves.specs.declared.change.Edit.{Edit}
 use Rattle.moves.specs.declared.change.Edit.TheVariants.{Write, Resize}
 use Rattle.cfb.specs.Calls.{state_len}
 use Rattle.cfb.specs.Changes.{no_room, start_in, done_with}
 use Rattle.cfb.specs.declared.State.{State}
-use Rattle.cfb.specs.declared.Answer.TheVariants.{Done}
 
 -- what is free needs no room
 pub room_free : (s : State) (lent more : ℕ) → s.sectors ≤ room_of (state_len s) lent → more ≤ s.free → false ≡ no_room s lent more
@@ -63,7 +62,8 @@ pub bytes_resize : (edit : Edit) (given len : ℕ) → edit ≡ Resize len → 0
 bytes_resize edit given len e = rw e
 
 -- the answer and the state
-pub done_as : (s : State) (img ids : List ℕ) (c : Changed) (bytes told start len : ℕ) (header : Header) → start ≡ start_in ids c.ids → told ≡ bytes → len ≡ state_len s → header ≡ header_of img
-    → record { answer = Done c.ids start told; state = record { mode = s.mode; used = (c.sectors + 1) * len; sectors = c.sectors; free = c.free; header = header } } ≡ done_with s img ids c bytes
+pub done_as : (s : State) (img : List ℕ) (sectors free : ℕ) (ids : List ℕ) (count bytes told start len : ℕ) (header : Header) → start ≡ start_in ids count → told ≡ bytes → len ≡ state_len s → header ≡ header_of img
+    → record { answer = Ok (record { ids = count; start = start; bytes = told }); state = record { mode = s.mode; used = (sectors + 1) * len; sectors = sectors; free = free; header = header } }
+    ≡ done_with s img sectors free ids count bytes
 unfolding done_with
-done_as s img ids c bytes told start len header p b q r = rw (p, b, q, r)
+done_as s img sectors free ids count bytes told start len header p b q r = rw (p, b, q, r)

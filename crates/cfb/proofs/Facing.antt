@@ -1,6 +1,6 @@
 -- What the tables' opening found is what the face says of it, and the answer is one. Assumes nothing.
 use Prim.Native.Nat.{ℕ}
-use mathlib.Core.Path.{◌≡◌, sym, ◌∙◌, ap}
+use mathlib.Core.Path.{◌≡◌, refl, sym, ◌∙◌, ap}
 use mathlib.Core.List.{List, [], ◌∷◌}
 use mathlib.Core.Logic.{⊎_elim, ◌≢◌}
 use native.Mathlib.Omega.{arith}
@@ -9,13 +9,16 @@ use lib.ListN.{length, get_or}
 use Rattle.lists.proofs.Cases.{same_or}
 use Rattle.header.specs.Read.{header_of}
 use Rattle.header.specs.declared.Validation.{Validation}
+use Rattle.std.specs.Prelude.{Result, Ok, Err}
+use Rattle.std.proofs.lemmas.Result.{IfOk-at_ok}
+use Rattle.consts.specs.Refusals.{number_of, ends_with}
+use Rattle.consts.specs.declared.refusal.Refusal.{Refusal}
+use Rattle.consts.proofs.Refusals.{number_apart, number_not}
 use Rattle.alloc.specs.Opening.{Tables, open_tables, open_no, shortest}
-use Rattle.alloc.specs.Opened.{OpenSays}
+use Rattle.alloc.specs.Opened.{found_in, OpenSays}
 use Rattle.alloc.specs.declared.open.Found.{Found}
-use Rattle.alloc.proofs.Opens.{found_open, found_number}
-use Rattle.cfb.specs.Face.{number_of, numbers_of, answer, no_state, sectors_of, tables_of, state_of, Opens}
-use Rattle.cfb.specs.declared.Verdict.{Verdict}
-use Rattle.cfb.specs.declared.Verdict.TheVariants.{Accepted, Refused}
+use Rattle.cfb.specs.Face.{numbers_of, answer, no_state, sectors_of, tables_of, state_of, Opens}
+use Rattle.cfb.specs.declared.Counts.{Counts}
 use Rattle.cfb.specs.declared.State.{State}
 use Rattle.cfb.specs.declared.Opened.{Opened}
 
@@ -37,45 +40,43 @@ state_accepted : (k : ℕ) (m : Validation) (img : List ℕ) (used : ℕ) → k 
 unfolding state_of
 state_accepted k m img used z = rw (eq-eqb k 0 z)
 
-module _ (m : Validation) (img : List ℕ) (used : ℕ) (t : Tables) (f : Found) (img' : List ℕ) (t' : Tables) (s : OpenSays m img used t f t') (i : img' ≡ img) where
-  -- the number found is the opening's
-  number : f.no ≡ open_no m img used (shortest t)
-  number = ap (λ (x : Found). x.no) s.found ∙ found_number _ _ img _ _
-
+module _ (m : Validation) (img : List ℕ) (used : ℕ) (t : Tables) (r : Result Found Refusal) (t' : Tables) (s : OpenSays m img used t r t') where
   -- refused
-  pub face_refused : (f.no ≡ 0 → ⊥) → (v : Verdict) (o : State) → v ≡ Refused f.no → o ≡ no_state → Opens m img used t (record { verdict = v; state = o }) img' t'
+  pub face_refused : (e : Refusal) → r ≡ Err e → Opens m img used t (record { verdict = Err e; state = no_state }) img t'
   unfolding tables_of sectors_of
-  face_refused n v o e q =
-      let z : open_no m img used (shortest t) ≡ 0 → ⊥ = λ y. n (number ∙ y) in
+  face_refused e q =
+      let number : number_of e ≡ open_no m img used (shortest t) = sym (ap ends_with q) ∙ s.number in
+      let some : open_no m img used (shortest t) ≡ 0 → ⊥ = λ y. number_not e (number ∙ y) in
       record {
-        verdict = ap numbers_of e ∙ ap (λ (k : ℕ). k ∷ []) number ∙ sym (answer_refused _ _ _ z);
-        state = q ∙ sym (state_refused _ m img used z);
-        image = i;
+        verdict = ap (λ (k : ℕ). k ∷ []) number ∙ sym (answer_refused _ _ _ some);
+        state = sym (state_refused _ m img used some);
+        image = refl;
         tables = s.left;
       }
 
   -- open
-  pub face_accepted : f.no ≡ 0 → Opens m img used t (record { verdict = Accepted f.sectors f.free; state = record { mode = m; used = used; sectors = f.sectors; free = f.free; header = f.header } }) img' t'
-  unfolding tables_of sectors_of open_tables
-  face_accepted e =
-      let z : open_no m img used (shortest t) ≡ 0 = sym number ∙ e in
-      let w = s.found ∙ found_open _ _ img _ _ z in
+  pub face_accepted : (f : Found) → r ≡ Ok f
+      → Opens m img used t (record { verdict = Ok (record { sectors = f.sectors; free = f.free }); state = record { mode = m; used = used; sectors = f.sectors; free = f.free; header = f.header } }) img t'
+  unfolding tables_of sectors_of open_tables found_in
+  face_accepted f q =
+      let z : open_no m img used (shortest t) ≡ 0 = sym (sym (ap ends_with q) ∙ s.number) in
+      let w = IfOk-at_ok _ q s.found in
       record {
         verdict = ap (λ (x : Found). 0 ∷ x.sectors ∷ x.free ∷ []) w ∙ sym (answer_accepted _ _ _ z);
         state = ap (λ (x : Found). record { mode = m; used = used; sectors = x.sectors; free = x.free; header = x.header }) w ∙ sym (state_accepted _ m img used z);
-        image = i;
+        image = refl;
         tables = s.left;
       }
 
 -- what a case of the answer tells of the opening
-pub accepted_says : (sectors free k n c : ℕ) → numbers_of (Accepted sectors free) ≡ answer k n c → (k ≡ 0) × (sectors ≡ n) × (free ≡ c)
-accepted_says sectors free k n c e =
+pub accepted_says : (v : Counts) (k n c : ℕ) → numbers_of (Ok v) ≡ answer k n c → (k ≡ 0) × (v.sectors ≡ n) × (v.free ≡ c)
+accepted_says v k n c e =
     ⊎_elim
     (λ (z : k ≡ 0). let w = e ∙ answer_accepted k n c z in (z, ap (λ (xs : List ℕ). get_or xs 1 0) w, ap (λ (xs : List ℕ). get_or xs 2 0) w))
     (λ (d : k ≢ 0). let w : ◌≡◌ {A = ℕ} 3 1 = ap (λ (xs : List ℕ). length xs) (e ∙ answer_refused k n c d) in absurd (omega arith))
     (same_or k 0)
 
-pub refused_says : (j k n c : ℕ) → numbers_of (Refused j) ≡ answer k n c → (k ≡ 0 → ⊥) × (j ≡ k)
+pub refused_says : (j : Refusal) (k n c : ℕ) → numbers_of (Err j) ≡ answer k n c → (k ≡ 0 → ⊥) × (number_of j ≡ k)
 refused_says j k n c e =
     ⊎_elim
     (λ (z : k ≡ 0). let w : ◌≡◌ {A = ℕ} 1 3 = ap (λ (xs : List ℕ). length xs) (e ∙ answer_accepted k n c z) in absurd (omega arith))
@@ -83,16 +84,19 @@ refused_says j k n c e =
     (same_or k 0)
 
 -- the answer's number is the opening's
-pub verdict_number : (v : Verdict) (k n c : ℕ) → numbers_of v ≡ answer k n c → number_of v ≡ k
-verdict_number (Accepted sectors free) k n c e = sym (accepted_says sectors free k n c e).0
-verdict_number (Refused j) k n c e = (refused_says j k n c e).1
+pub verdict_number : (v : Result Counts Refusal) (k n c : ℕ) → numbers_of v ≡ answer k n c → ends_with v ≡ k
+verdict_number (Ok v) k n c e = sym (accepted_says v k n c e).0
+verdict_number (Err j) k n c e = (refused_says j k n c e).1
 
 -- two answers with the same numbers are one
-verdict_apart : (v w : Verdict) → numbers_of v ≡ numbers_of w → v ≡ w
-verdict_apart (Accepted a b) (Accepted c d) e = let p : a ≡ c = ap (λ (xs : List ℕ). get_or xs 1 0) e in let q : b ≡ d = ap (λ (xs : List ℕ). get_or xs 2 0) e in rw (p, q)
-verdict_apart (Accepted a b) (Refused k) e = let z : ◌≡◌ {A = ℕ} 3 1 = ap (λ (xs : List ℕ). length xs) e in absurd (omega arith)
-verdict_apart (Refused j) (Accepted c d) e = let z : ◌≡◌ {A = ℕ} 1 3 = ap (λ (xs : List ℕ). length xs) e in absurd (omega arith)
-verdict_apart (Refused j) (Refused k) e = let p : j ≡ k = ap (λ (xs : List ℕ). get_or xs 0 0) e in rw p
+verdict_apart : (v w : Result Counts Refusal) → numbers_of v ≡ numbers_of w → v ≡ w
+verdict_apart (Ok a) (Ok b) e =
+    let p : a.sectors ≡ b.sectors = ap (λ (xs : List ℕ). get_or xs 1 0) e in
+    let q : a.free ≡ b.free = ap (λ (xs : List ℕ). get_or xs 2 0) e in
+    λ i. Ok (record { sectors = p i; free = q i })
+verdict_apart (Ok a) (Err k) e = let z : ◌≡◌ {A = ℕ} 3 1 = ap (λ (xs : List ℕ). length xs) e in absurd (omega arith)
+verdict_apart (Err j) (Ok b) e = let z : ◌≡◌ {A = ℕ} 1 3 = ap (λ (xs : List ℕ). length xs) e in absurd (omega arith)
+verdict_apart (Err j) (Err k) e = ap Err (number_apart j k (ap (λ (xs : List ℕ). get_or xs 0 0) e))
 
 -- any two results that the contract permits are the same
 pub open_unique : (m : Validation) (img : List ℕ) (used : ℕ) (t : Tables) (r q : Opened) (img' img'' : List ℕ) (t' t'' : Tables) → Opens m img used t r img' t' → Opens m img used t q img'' t''

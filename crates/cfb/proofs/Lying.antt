@@ -18,8 +18,9 @@ use Rattle.chain.specs.Bytes.{Lies, Readable, ReadLeft}
 use Rattle.chain.proofs.Bytes.{sectors_lie}
 use Rattle.cfb.specs.Calls.{outcome_no, outcome_ids, state_len, walked, agreed_rows, walk_rows, chain_rows, chain_no, chain_ids}
 use Rattle.agree.proofs.Meaning.{agrees_exactly}
-use Rattle.walk.specs.declared.Walked.{Walked}
-use Rattle.walk.specs.declared.Walked.TheVariants.{Listed}
+use Rattle.std.specs.Prelude.{Result, Ok}
+use Rattle.consts.specs.declared.refusal.Refusal.{Refusal}
+use Rattle.consts.proofs.Refusals.{ends_accepted}
 use Rattle.cfb.specs.Listed.{ChainListed}
 use Rattle.cfb.specs.declared.State.{State}
 use Rattle.cfb.proofs.Agreed.{Chained, agreed_chained}
@@ -75,7 +76,7 @@ past_own c e h = rw e at h
 pub within_own : (c : ℕ) {S S' offset : ℕ} → S ≡ S' → offset ≤ S * c → offset ≤ S' * c
 within_own c e h = rw e at h
 
-module _ (s : State) (img : List ℕ) (t : Tables) (ids : List ℕ) (start : ℕ) (w : Walked) (ids' : List ℕ) (l : ChainListed s img t ids start w ids') (c : ℕ) (e : w ≡ Listed c) where
+module _ (s : State) (img : List ℕ) (t : Tables) (ids : List ℕ) (start : ℕ) (w : Result ℕ Refusal) (ids' : List ℕ) (l : ChainListed s img t ids start w ids') (c : ℕ) (e : w ≡ Ok c) where
   -- the ids stand at the front of the list
   front : take c ids' ≡ chain_ids s t start
   front = listed_front s img t ids start w ids' l 0 [] c e

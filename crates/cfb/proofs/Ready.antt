@@ -27,12 +27,12 @@ use Rattle.moves.specs.Change.{Apart}
 use Rattle.moves.proofs.Changing.{chain_bytes_small}
 use Rattle.cfb.specs.Calls.{state_len, agreed_rows, walk_rows, chain_no, chain_ids}
 use Rattle.cfb.specs.Causes.{Agreed}
-use Rattle.walk.specs.declared.Walked.{Walked}
-use Rattle.walk.specs.declared.Walked.TheVariants.{Listed}
+use Rattle.std.specs.Prelude.{Result, Ok}
+use Rattle.consts.specs.declared.refusal.Refusal.{Refusal}
+use Rattle.consts.proofs.Refusals.{ends_accepted}
 use Rattle.cfb.specs.Changes.{change_rows, change_no, chain_from, Listing}
 use Rattle.cfb.specs.declared.State.{State}
 use Rattle.cfb.proofs.Agreed.{Chained}
-use Rattle.cfb.proofs.Answering.{walked_listed}
 use Rattle.cfb.proofs.Fitted.{agreed_fits, agreed_frees}
 use Rattle.cfb.proofs.Lying.{agreed, known, lists_chain}
 use Rattle.cfb.proofs.Refusing.{padded_front, refused_early, refused_mode, refused_walk}
@@ -183,14 +183,14 @@ module _ (s : State) (img : List ℕ) (t : Tables) (room start : ℕ) (z : chang
   }
 
 -- the sectors of a state whose chain is listed for a change are no more than there is room for
-pub listing_room : (s : State) (lent : ℕ) (w : Walked) (ids : List ℕ) → Listing s lent w ids → (c : ℕ) → w ≡ Listed c → s.sectors ≤ room_of (state_len s) lent
+pub listing_room : (s : State) (lent : ℕ) (w : Result ℕ Refusal) (ids : List ℕ) → Listing s lent w ids → (c : ℕ) → w ≡ Ok c → s.sectors ≤ room_of (state_len s) lent
 unfolding chain_from
 listing_room s lent w ids l c e =
-    rw (← l.long) (ready_fits s l.image l.tables (length l.before) l.start (walked_listed _ _ c (sym e ∙ l.listed.answer)).0).fits.disk.inside
+    rw (← l.long) (ready_fits s l.image l.tables (length l.before) l.start (ends_accepted l.listed.answer c e).0).fits.disk.inside
 
 -- and the bytes of the chain are few
-pub listing_small : (s : State) (lent : ℕ) (w : Walked) (ids : List ℕ) → Listing s lent w ids → (c : ℕ) → w ≡ Listed c → {S : ℕ} → S ≡ state_len s → S * c ≤ 1073741824
+pub listing_small : (s : State) (lent : ℕ) (w : Result ℕ Refusal) (ids : List ℕ) → Listing s lent w ids → (c : ℕ) → w ≡ Ok c → {S : ℕ} → S ≡ state_len s → S * c ≤ 1073741824
 unfolding chain_from
 listing_small s lent w ids l c e q =
-    let told = walked_listed _ _ c (sym e ∙ l.listed.answer) in
+    let told = ends_accepted l.listed.answer c e in
     rw (q, told.1) (chain_bytes_small _ _ _ (ready_fits s l.image l.tables (length l.before) l.start told.0))

@@ -24,27 +24,16 @@ use Rattle.agree.specs.Agree.{agreement}
 use Rattle.agree.proofs.Meaning.{agrees_exactly}
 use Rattle.walk.specs.Walk.{lists, refuses}
 use Rattle.walk.proofs.Walking.{walk_past}
-use Rattle.walk.specs.declared.Walked.{Walked}
-use Rattle.walk.specs.declared.Walked.TheVariants.{Listed, Refused}
+use Rattle.std.specs.Prelude.{Result, Ok, Err}
+use Rattle.consts.specs.Refusals.{number_of}
+use Rattle.consts.specs.declared.refusal.Refusal.{Refusal}
+use Rattle.consts.proofs.Refusals.{refusal_ends, ends_refused, ends_accepted, ends_same, number_not}
 use Rattle.cfb.specs.Calls.{outcome_no, state_len, walked, agreed_rows, walk_rows, chain_rows, chain_no, chain_ids, ids_left}
 use Rattle.cfb.specs.Changes.{start_pointed, change_rows, change_no, ChangeListed}
-use Rattle.cfb.specs.Listed.{walked_as, walked_no, ChainListed}
+use Rattle.cfb.specs.Listed.{ChainListed}
 use Rattle.cfb.specs.declared.State.{State}
 use Rattle.cfb.proofs.Agreed.{agreed_marks}
 use Rattle.cfb.proofs.Lying.{lists_chain, agreed, known}
-
--- the number of a listing's answer
-walked_as_lem : (k count : ℕ) → walked_no (walked_as k count) ≡ k
-unfolding walked_no walked_as
-walked_as_lem k count = ⊎_elim (λ (z : k ≡ 0). rw (eq-eqb k 0 z) (sym z)) (λ (n : k ≢ 0). rw (ne_eqb k 0 n)) (same_or k 0)
-
-pub number_listed : (w : Walked) (count : ℕ) → w ≡ Listed count → 0 ≡ walked_no w
-unfolding walked_no
-number_listed w count e = rw e
-
-pub number_refused : (w : Walked) (k : ℕ) → w ≡ Refused k → k ≡ walked_no w
-unfolding walked_no
-number_refused w k e = rw e
 
 -- the numbers that rows 11 and 19, and 20 to 22, can give
 data Early : ℕ → Type 0 where
@@ -207,23 +196,26 @@ start_marked s img t room start z =
         (same_or start end_of_chain)
 
 -- the number in the id list and in the answer
-module _ (s : State) (img : List ℕ) (t : Tables) (ids : List ℕ) (start : ℕ) (w : Walked) (ids' : List ℕ) (l : ChainListed s img t ids start w ids') where
+module _ (s : State) (img : List ℕ) (t : Tables) (ids : List ℕ) (start : ℕ) (w : Result ℕ Refusal) (ids' : List ℕ) (l : ChainListed s img t ids start w ids') where
   -- the number of the answer is that of opening the chain
-  pub listed_number : (k : ℕ) → k ≡ walked_no w → chain_no s img t (length ids) start ≡ k
-  listed_number k e = sym (e ∙ ap walked_no l.answer ∙ walked_as_lem _ _)
+  pub listed_refused : (e : Refusal) → w ≡ Err e → chain_no s img t (length ids) start ≡ number_of e
+  listed_refused e q = sym (ends_refused l.answer e q).1
+
+  pub listed_none : (c : ℕ) → w ≡ Ok c → chain_no s img t (length ids) start ≡ 0
+  listed_none c q = (ends_accepted l.answer c q).0
 
   -- a change that ends as opening the chain does
   pub change_same : change_no s img t (length ids) start ≡ chain_no s img t (length ids) start → ChangeListed s img t ids start w ids'
   change_same e = record {
-    answer = l.answer ∙ ap (λ (k : ℕ). walked_as k (length (chain_ids s t start))) (sym e);
+    answer = ends_same (sym e) l.answer;
     list = l.list ∙ ap (λ (k : ℕ). ids_left k ids (chain_ids s t start)) (sym e);
   }
 
 -- a change that is refused by a number of its own
-pub change_refused : (s : State) (img : List ℕ) (t : Tables) (ids : List ℕ) (start k : ℕ) (ids' : List ℕ) → change_no s img t (length ids) start ≡ k → k ≢ 0 → k ≢ 11
-    → ids' ≡ replicate (length ids) 0 → ChangeListed s img t ids start (Refused k) ids'
-unfolding walked_as ids_left
-change_refused s img t ids start k ids' e n m z = record {
-  answer = sym (ap (λ (j : ℕ). walked_as j (length (chain_ids s t start))) e ∙ rw (ne_eqb k 0 n));
-  list = z ∙ sym (ap (λ (j : ℕ). ids_left j ids (chain_ids s t start)) e ∙ rw (ne_eqb k 0 n, ne_eqb k 11 m));
+pub change_refused : (s : State) (img : List ℕ) (t : Tables) (ids : List ℕ) (start : ℕ) (e : Refusal) (ids' : List ℕ) → change_no s img t (length ids) start ≡ number_of e → number_of e ≢ 11
+    → ids' ≡ replicate (length ids) 0 → ChangeListed s img t ids start (Err e) ids'
+unfolding ids_left
+change_refused s img t ids start e ids' n m z = record {
+  answer = refusal_ends e (sym n);
+  list = z ∙ sym (ap (λ (j : ℕ). ids_left j ids (chain_ids s t start)) n ∙ rw (ne_eqb (number_of e) 0 (number_not e), ne_eqb (number_of e) 11 m));
 }

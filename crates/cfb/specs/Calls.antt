@@ -1,15 +1,16 @@
 -- What a call on a chain answers and leaves (document 01, "Calls on a chain"). Assumes nothing.
-use Rattle.std.specs.Prelude.{ℕ, ◌*◌, min, ◌≡◌, not, List, [], ◌∷◌, ◌++◌, eqb, ltb, get_or, length, take, replicate}
+use Rattle.std.specs.Prelude.{ℕ, ◌*◌, min, ◌≡◌, not, List, [], ◌∷◌, ◌++◌, eqb, ltb, get_or, length, take, replicate, Result, Ok, Err}
 use Rattle.lists.specs.Lists.{choose}
 use Rattle.lists.specs.Rows.{Row, row, refusal}
+use Rattle.consts.specs.Refusals.{number_of}
+use Rattle.consts.specs.declared.refusal.Refusal.{Refusal}
 use Rattle.header.specs.Versions.{length_of}
 use Rattle.fat.specs.Lists.{room_of}
 use Rattle.alloc.specs.Opening.{Tables, shortest, padded}
 use Rattle.agree.specs.Agree.{agreement}
 use Rattle.walk.specs.Walk.{Outcome, lists, refuses, walk_of}
 use Rattle.chain.specs.Bytes.{read_count, read_bytes}
-use Rattle.cfb.specs.declared.Answer.{Answer}
-use Rattle.cfb.specs.declared.Answer.TheVariants.{Done, Refused}
+use Rattle.cfb.specs.declared.Done.{Done}
 use Rattle.cfb.specs.declared.State.{State}
 use Rattle.cfb.specs.declared.Called.{Called}
 
@@ -80,13 +81,9 @@ unfolding padded
 ids_left k before ids = choose (eqb k 0) (padded ids (length before)) (choose (eqb k 11) before (replicate (length before) 0))
 
 -- document 01's number and values for each case of the answer: an acceptance has 0, the number of ids, the start, and the bytes read or written
-abbrev pub told_by : Answer → List ℕ
-told_by (Done ids start bytes) = 0 ∷ ids ∷ start ∷ bytes ∷ []
-told_by (Refused k) = k ∷ []
-
--- the number among them: 0 for an acceptance
-abbrev pub answer_no : Answer → ℕ
-answer_no a = get_or (told_by a) 0 0
+abbrev pub told_by : Result Done Refusal → List ℕ
+told_by (Ok d) = 0 ∷ d.ids ∷ d.start ∷ d.bytes ∷ []
+told_by (Err e) = number_of e ∷ []
 
 -- the numbers of a call that ends with k
 unfoldable pub told : ℕ → ℕ → ℕ → ℕ → List ℕ
@@ -107,5 +104,12 @@ pub record ChainReads (s : State) (img : List ℕ) (t : Tables) (ids : List ℕ)
   pub state : r.state ≡ s
   pub image : img' ≡ img
   pub tables : t' ≡ t
+  pub list : ids' ≡ ids_left (read_no s img t (length ids) start offset) ids (chain_ids s t start)
+  pub buffer : buf' ≡ choose (eqb (read_no s img t (length ids) start offset) 0) (read_bytes (state_len s) img (chain_ids s t start) offset buf) buf
+
+-- document 01, Read: the answer, the id list and the buffer of a read
+pub record Reads (s : State) (img : List ℕ) (t : Tables) (ids : List ℕ) (start offset : ℕ) (buf : List ℕ) (r : Result Done Refusal) (ids' buf' : List ℕ) : Type 0 where
+  pub answer : told_by r
+      ≡ told (read_no s img t (length ids) start offset) (length (chain_ids s t start)) start (read_count (state_len s) (chain_ids s t start) offset buf)
   pub list : ids' ≡ ids_left (read_no s img t (length ids) start offset) ids (chain_ids s t start)
   pub buffer : buf' ≡ choose (eqb (read_no s img t (length ids) start offset) 0) (read_bytes (state_len s) img (chain_ids s t start) offset buf) buf

@@ -1,5 +1,5 @@
 -- What a call that changes a chain answers and leaves (document 01, "Calls on a chain": Write, Resize, Free). Assumes nothing.
-use Rattle.std.specs.Prelude.{ℕ, ◌+◌, ◌-◌, ◌*◌, ◌≡◌, Bool, not, List, [], ◌∷◌, ◌++◌, eqb, ltb, length, get_or, take, replicate}
+use Rattle.std.specs.Prelude.{ℕ, ◌+◌, ◌-◌, ◌*◌, ◌≡◌, Bool, not, List, [], ◌∷◌, ◌++◌, eqb, ltb, length, get_or, take, replicate, Result, Ok}
 use Rattle.lists.specs.Lists.{choose, both}
 use Rattle.lists.specs.Rows.{Row, row, refusal}
 use Rattle.consts.specs.Consts.{end_of_chain}
@@ -12,14 +12,12 @@ use Rattle.disk.specs.Disk.{count_after}
 use Rattle.room.specs.Needed.{resize_more, write_more}
 use Rattle.hand.specs.Hand.{Chain}
 use Rattle.moves.specs.Change.{resized, written, edited, bytes_of}
-use Rattle.walk.specs.declared.Walked.{Walked}
+use Rattle.consts.specs.Refusals.{Ends}
+use Rattle.consts.specs.declared.refusal.Refusal.{Refusal}
 use Rattle.cfb.specs.Calls.{state_len, walked, agreed_rows, walk_rows, chain_ids, ids_left, told_by, told}
-use Rattle.cfb.specs.Listed.{walked_as}
-use Rattle.moves.specs.declared.change.Changed.{Changed}
 use Rattle.moves.specs.declared.change.Edit.{Edit}
 use Rattle.moves.specs.declared.change.Edit.TheVariants.{Write, Resize}
 use Rattle.cfb.specs.declared.State.{State}
-use Rattle.cfb.specs.declared.Answer.TheVariants.{Done}
 use Rattle.cfb.specs.declared.Called.{Called}
 
 -- document 01, 25: the start is not END, and some entry equals it; a start that is not refused by 20 is regular, so the entry is
@@ -128,12 +126,12 @@ ChainEdits s img t ids start edit buf r img' t' ids' =
     Changes s img t ids (edit_no s img t (length ids) start edit (length buf)) (edited (state_len s) (chain_from s img t (length ids) start) edit buf) (bytes_of edit (length buf)) r img' t' ids'
 
 -- a change is judged and its chain listed: the answer, and the id list
-pub record ChangeListed (s : State) (img : List ℕ) (t : Tables) (ids : List ℕ) (start : ℕ) (r : Walked) (ids' : List ℕ) : Type 0 where
-  pub answer : r ≡ walked_as (change_no s img t (length ids) start) (length (chain_ids s t start))
+pub record ChangeListed (s : State) (img : List ℕ) (t : Tables) (ids : List ℕ) (start : ℕ) (r : Result ℕ Refusal) (ids' : List ℕ) : Type 0 where
+  pub answer : Ends (change_no s img t (length ids) start) (length (chain_ids s t start)) r
   pub list : ids' ≡ ids_left (change_no s img t (length ids) start) ids (chain_ids s t start)
 
 -- a chain is listed for a change: of some lent image of so many bytes and its tables, an id list before and a start
-pub record Listing (s : State) (lent : ℕ) (w : Walked) (ids : List ℕ) : Type 0 where
+pub record Listing (s : State) (lent : ℕ) (w : Result ℕ Refusal) (ids : List ℕ) : Type 0 where
   pub image : List ℕ
   pub tables : Tables
   pub before : List ℕ
@@ -143,12 +141,12 @@ pub record Listing (s : State) (lent : ℕ) (w : Walked) (ids : List ℕ) : Type
   pub listed : ChangeListed s image tables before start w ids
 
 -- a change of a chain of these ids is judged with number k: the answer, and the id list
-pub record Judged (k : ℕ) (ids chain : List ℕ) (r : Walked) (ids' : List ℕ) : Type 0 where
-  pub answer : r ≡ walked_as k (length chain)
+pub record Judged (k : ℕ) (ids chain : List ℕ) (r : Result ℕ Refusal) (ids' : List ℕ) : Type 0 where
+  pub answer : Ends k (length chain) r
   pub list : ids' ≡ ids_left k ids chain
 
--- the answer and the state after a change of which these numbers are told
-unfoldable pub done_with : State → List ℕ → List ℕ → Changed → ℕ → Called
+-- the answer and the state after a change that left so many sectors, so many of them FREE, and count ids
+unfoldable pub done_with : State → List ℕ → ℕ → ℕ → List ℕ → ℕ → ℕ → Called
 unfolding start_in
-done_with s img ids c bytes =
-    record { answer = Done c.ids (start_in ids c.ids) bytes; state = state_with s c.sectors c.free img }
+done_with s img sectors free ids count bytes =
+    record { answer = Ok (record { ids = count; start = start_in ids count; bytes = bytes }); state = state_with s sectors free img }

@@ -1,6 +1,8 @@
 -- What an opening answers, and the state that it hands out (document 01, "Opening an image"). Assumes nothing.
-use Rattle.std.specs.Prelude.{ℕ, ◌≡◌, List, [], ◌∷◌, eqb, length}
+use Rattle.std.specs.Prelude.{ℕ, ◌≡◌, List, [], ◌∷◌, eqb, length, Result, Ok, Err}
 use Rattle.lists.specs.Lists.{choose}
+use Rattle.consts.specs.Refusals.{number_of}
+use Rattle.consts.specs.declared.refusal.Refusal.{Refusal}
 use Rattle.header.specs.Versions.{length_of}
 use Rattle.header.specs.Read.{header_of, none}
 use Rattle.header.specs.declared.Validation.{Validation}
@@ -8,20 +10,14 @@ use Rattle.header.specs.declared.Validation.TheVariants.{Strict}
 use Rattle.fat.specs.Lists.{sectors_in}
 use Rattle.alloc.specs.Opening.{Tables, open_tables, open_no, shortest}
 use Rattle.alloc.specs.Opened.{tables_left}
-use Rattle.cfb.specs.declared.Verdict.{Verdict}
-use Rattle.cfb.specs.declared.Verdict.TheVariants.{Accepted, Refused}
+use Rattle.cfb.specs.declared.Counts.{Counts}
 use Rattle.cfb.specs.declared.State.{State}
 use Rattle.cfb.specs.declared.Opened.{Opened}
 
--- document 01's number for each case of the answer; an acceptance has 0
-abbrev pub number_of : Verdict → ℕ
-number_of (Accepted sectors free) = 0
-number_of (Refused k) = k
-
 -- the number and the counts of each case: no count stands beside a refusal
-abbrev pub numbers_of : Verdict → List ℕ
-numbers_of (Accepted sectors free) = 0 ∷ sectors ∷ free ∷ []
-numbers_of (Refused k) = k ∷ []
+abbrev pub numbers_of : Result Counts Refusal → List ℕ
+numbers_of (Ok c) = 0 ∷ c.sectors ∷ c.free ∷ []
+numbers_of (Err e) = number_of e ∷ []
 
 -- the numbers of an opening that ends with k: its counts where that is 0
 unfoldable pub answer : ℕ → ℕ → ℕ → List ℕ

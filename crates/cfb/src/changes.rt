@@ -1,75 +1,60 @@
 // What every change of a chain begins and ends with: the refusals before its first store, and the state after its last (document 01, "Calls on a chain").
-ghost use Rattle.std.specs.Prelude.{◌≡◌, ◌+◌, ◌*◌, ◌≤◌, ◌<◌, eqb, length, get_or};
+ghost use Rattle.std.specs.Prelude.{◌≡◌, ◌+◌, ◌*◌, ◌≤◌, eqb, length, get_or};
+ghost use Rattle.lists.specs.Lists.{either};
+ghost use Rattle.consts.specs.Refusals.{ends_with};
+ghost use Rattle.tables.specs.Tables.{tables_of};
 ghost use Rattle.fat.specs.Lists.{room_of};
 ghost use Rattle.moves.specs.Change.{seek_of, bytes_of};
 ghost use Rattle.cfb.specs.Calls.{state_len, chain_ids};
-ghost use Rattle.cfb.specs.Listed.{walked_no};
 ghost use Rattle.cfb.specs.Changes.{ChangeListed, no_room, edit_no, Listing, Judged, start_in, done_with};
 
 use crate::calls::{chain_of, len_of};
-use crate::{Answer, Called, State};
+use crate::{Called, Done, State};
 use alloc::early::room_of;
+use consts::refusal::Refusal;
 use header::content::content;
-use moves::change::{Changed, Edit, more_of};
+use moves::change::{Edit, more_of};
 use room::has_room;
-use walk::Walked;
-
-// The number of a walk's answer: 0 where ids are listed.
-fn number_of(walked: Walked) -> u32
-    ensures { result ≡ walked_no walked }
-{
-    match walked {
-        Walked::Listed(_) => 0,
-        Walked::Refused(no) => no,
-    }
-}
+use tables::Tables;
 
 // Whether the mark of the start is set: some entry points at it.
 fn is_marked(marks: &[u8], start: u32) -> bool
     ensures { result ≡ eqb (get_or marks.now start 0) 1 }
 {
-    let i = start as usize;
-    if i < marks.len() {
-        return marks[i] == 1;
-    }
-    false
+    marks.get(start as usize).copied().unwrap_or(0) == 1
+}
+
+// Whether an answer is a refusal that comes before 26: 11 and 19 do, 20 to 22 come behind it.
+fn comes_first(listed: Result<usize, Refusal>) -> bool
+    ensures { result ≡ either (eqb (ends_with listed) 11) (eqb (ends_with listed) 19) }
+{
+    matches!(listed, Err(Refusal::ShortTable | Refusal::Disagrees))
 }
 
 // Lists the chain from start for a change: 11 leaves the id list as it was; 19, 26, 20, 21, 22 and 25, in this order, leave it zero; else it holds the ids and then zeros.
 pub(crate) fn change_of(
     s: State,
     image: &[u8],
-    fat: &[u32],
-    fats: &[u32],
-    difats: &[u32],
-    frees: &[u32],
-    marks: &[u8],
+    tables: Tables<'_>,
     ids: &mut [u32],
     start: u32,
-) -> Walked
-    ensures { ChangeListed s image.now (record { fat = fat.now; fats = fats.now; difats = difats.now; frees = frees.now; marks = marks.now }) ids.old start result ids.new }
+) -> Result<usize, Refusal>
+    ensures { ChangeListed s image.now (tables_of tables.entry) ids.old start result ids.new }
 {
-    let walked = chain_of(s, image, fat, fats, difats, frees, marks, ids, start);
-    let no = number_of(walked);
-    if no == 11 {
-        return walked;
+    let listed = chain_of(s, image, tables, ids, start);
+    if comes_first(listed) {
+        return listed;
     }
-    if no == 19 {
-        return walked;
+    if !s.mode.is_strict() {
+        ids.fill(0);
+        return Err(Refusal::PermissiveChange);
     }
-    let mode = s.mode;
-    if !mode.is_strict() {
-        words::fill32(ids, 0);
-        return Walked::Refused(26);
+    let count = listed?;
+    if is_marked(tables.marks, start) {
+        ids.fill(0);
+        return Err(Refusal::MidChain);
     }
-    if no != 0 {
-        return walked;
-    }
-    if is_marked(marks, start) {
-        words::fill32(ids, 0);
-        return Walked::Refused(25);
-    }
-    walked
+    Ok(count)
 }
 
 // Whether a lent image has no room for so many sectors more in a chain.
@@ -77,12 +62,11 @@ pub(crate) fn no_room(s: State, lent: usize, more: usize) -> bool
     requires { s.sectors ≤ room_of (state_len s) lent }
     ensures { result ≡ no_room s lent more }
 {
-    let free = s.free;
-    if more <= free {
+    if more <= s.free {
         return false;
     }
     let room = room_of(s.version(), lent);
-    !has_room(len_of(s), s.sectors, more - free, room)
+    !has_room(len_of(s), s.sectors, more - s.free, room)
 }
 
 // The byte that an edit begins at: a resize has none to seek.
@@ -98,28 +82,26 @@ fn seek_of(edit: Edit) -> u64
 // Judges an edit whose chain is listed, in a lent image of so many bytes: 23 and 24, in this order, leave the id list zero; a refusal before them is handed on.
 pub(crate) fn edit_listed(
     s: State,
-    walked: Walked,
+    listed: Result<usize, Refusal>,
     lent: usize,
     ids: &mut [u32],
     edit: Edit,
     bytes: usize,
-) -> Walked
-    requires { Listing s lent walked ids.old }
-    ensures { (l : Listing s lent walked ids.old) → Judged (edit_no s l.image l.tables (length l.before) l.start edit bytes) l.before (chain_ids s l.tables l.start) result ids.new }
+) -> Result<usize, Refusal>
+    requires { Listing s lent listed ids.old }
+    ensures { (l : Listing s lent listed ids.old) → Judged (edit_no s l.image l.tables (length l.before) l.start edit bytes) l.before (chain_ids s l.tables l.start) result ids.new }
 {
-    let Walked::Listed(count) = walked else {
-        return walked;
-    };
+    let count = listed?;
     let len = len_of(s);
     if ((len * count) as u64) < seek_of(edit) {
-        words::fill32(ids, 0);
-        return Walked::Refused(23);
+        ids.fill(0);
+        return Err(Refusal::Offset);
     }
     if no_room(s, lent, more_of(len, count, edit, bytes)) {
-        words::fill32(ids, 0);
-        return Walked::Refused(24);
+        ids.fill(0);
+        return Err(Refusal::NoRoom);
     }
-    walked
+    Ok(count)
 }
 
 // How many bytes an edit tells of: a write all that it is given, a resize none.
@@ -143,34 +125,31 @@ fn first_of(ids: &[u32], count: usize) -> u32
     ids[0]
 }
 
-// The answer of an edit that was made, and the state after it, its header read anew from the image.
+// The answer of an edit that left so many sectors, so many of them FREE, and count ids in the chain; and the state after it, its
+// header read anew from the image.
 pub(crate) fn done_with(
     mut s: State,
     image: &[u8],
+    sectors: usize,
+    free: usize,
     ids: &[u32],
-    changed: Changed,
+    count: usize,
     edit: Edit,
     given: usize,
 ) -> Called
-    requires { (512 ≤ length image.now) × ((changed.sectors + 1) * state_len s ≤ length image.now) × (changed.ids ≤ length ids.now) }
-    ensures { result ≡ done_with s image.now ids.now changed (bytes_of edit given) }
+    requires { (512 ≤ length image.now) × ((sectors + 1) * state_len s ≤ length image.now) × (count ≤ length ids.now) }
+    ensures { result ≡ done_with s image.now sectors free ids.now count (bytes_of edit given) }
 {
-    let len = len_of(s);
-    let sectors = changed.sectors;
-    let count = changed.ids;
-    let start = first_of(ids, count);
-    let bytes = bytes_of(edit, given);
-    let header = content(image);
-    s.used = (sectors + 1) * len;
+    s.used = (sectors + 1) * len_of(s);
     s.sectors = sectors;
-    s.free = changed.free;
-    s.header = header;
+    s.free = free;
+    s.header = content(image);
     Called {
-        answer: Answer::Done {
+        answer: Ok(Done {
             ids: count,
-            start,
-            bytes,
-        },
+            start: first_of(ids, count),
+            bytes: bytes_of(edit, given),
+        }),
         state: s,
     }
 }

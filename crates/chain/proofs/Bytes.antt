@@ -62,13 +62,13 @@ module _ (S : ℕ) (img ids : List ℕ) (l : Lies S (length img) ids) where
       ap (λ (k : ℕ). get_or (chain_bytes S img ids) k 0) (sym (div-add-mod o S)) ∙ chain_in (o / S) (o % S) (chain_place o h) (mod-lt o l.some)
 
   -- a run from o on that ends within its sector ends within the chain
-  run_fits : (o k : ℕ) → o < S * length ids → o % S + k ≤ S → o + k ≤ length (chain_bytes S img ids)
+  run_fits : (o k : ℕ) → o / S < length ids → o % S + k ≤ S → o + k ≤ length (chain_bytes S img ids)
   run_fits o k h r =
-      let most : S * suc (o / S) ≤ S * length ids = mul-le-mul_left S (chain_place o h) in
+      let most : S * suc (o / S) ≤ S * length ids = mul-le-mul_left S h in
       omega (arith, length_chain, mul-suc S (o / S), div-add-mod o S)
 
   -- and is a run of that sector
-  pub chain_run : (o k : ℕ) → o < S * length ids → o % S + k ≤ S
+  pub chain_run : (o k : ℕ) → o / S < length ids → o % S + k ≤ S
       → part (chain_bytes S img ids) o k ≡ part (sector_of S img (get_or ids (o / S) 0)) (o % S) k
   chain_run o k h r =
       ext_get_or 0 (part (chain_bytes S img ids) o k) (part sector (o % S) k) (chain_long ∙ sym (length_part sector (o % S) k sector_fits))
@@ -77,14 +77,14 @@ module _ (S : ℕ) (img ids : List ℕ) (l : Lies S (length img) ids) where
       let here : o + i ≡ S * (o / S) + (o % S + i) = omega (arith, div-add-mod o S) in
       get_d_part (chain_bytes S img ids) o k i low
       ∙ ap (λ (p : ℕ). get_or (chain_bytes S img ids) p 0) here
-      ∙ chain_in (o / S) (o % S + i) (chain_place o h) (omega arith)
+      ∙ chain_in (o / S) (o % S + i) h (omega arith)
       ∙ sym (get_d_part sector (o % S) k i low))
     where
       sector : List ℕ
       sector = sector_of S img (get_or ids (o / S) 0)
 
       sector_fits : o % S + k ≤ length sector
-      sector_fits = omega (arith, sector_long (o / S) (chain_place o h))
+      sector_fits = omega (arith, sector_long (o / S) h)
 
       chain_long : length (part (chain_bytes S img ids) o k) ≡ k
       chain_long = length_part (chain_bytes S img ids) o k (run_fits o k h r)

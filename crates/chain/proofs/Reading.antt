@@ -1,5 +1,5 @@
 -- The loop of `read`: where it stands, a turn of it, and what it leaves. Assumes nothing.
-use Prim.Native.Nat.{ℕ, ◌+◌, ◌-◌, ◌*◌, ◌/◌, ◌%◌, ◌≤◌, ◌<◌}
+use Prim.Native.Nat.{ℕ, ◌+◌, ◌-◌, ◌/◌, ◌%◌, ◌≤◌, ◌<◌, min}
 use mathlib.Core.Path.{◌≡◌, ◌∙◌, sym, ap}
 use mathlib.Core.List.{List}
 use native.Mathlib.Omega.{arith}
@@ -7,86 +7,92 @@ use native.Mathlib.Nat.{zero-add}
 use borrow.Rule.Slice.PartMut.{put_mid}
 use lib.ListN.{length, get_or, take, drop}
 use Rattle.lists.specs.Lists.{splice, part}
-use Rattle.lists.proofs.Splice.{length_part, length_splice, splice_nil, splice_next, splice_whole, part_append}
+use Rattle.lists.proofs.Splice.{length_part, length_splice, splice_nil, splice_next, part_append, put_mid_splice}
+use Rattle.std.specs.Int.{div_ceil}
 use Rattle.sectors.specs.Sectors.{sector_of}
 use Rattle.chain.specs.Bytes.{chain_bytes, read_count, read_bytes, Readable, ReadLeft}
-use Rattle.chain.proofs.Bytes.{length_chain, chain_place, chain_run, count_fits, count_within}
-use Rattle.chain.proofs.Standing.{Stands, stands_byte, lent_run, back_run}
-
--- a part that is copied over the whole of a list
-pub copied_part : (from out : List ℕ) (x : ℕ) → x + length out ≤ length from → splice out 0 (take (x + length out - x) (drop x from)) ≡ part from x (length out)
-copied_part from out x h =
-    ap (splice out 0) (lent_run from x (length out)) ∙ splice_whole out (part from x (length out)) (length_part from x (length out) h)
+use Rattle.chain.proofs.Bytes.{length_chain, chain_run, count_fits, count_within}
+use Rattle.chain.proofs.Standing.{lent_ids, Turns, turns_begun, turns_done, turns_on, turns_over, turns_offset, turns_run, turns_stand, turns_id}
 
 -- where the loop stands: done of the count bytes are over the buffer's front
-pub record Reading (S : ℕ) (img ids : List ℕ) (offset : ℕ) (before : List ℕ) (count : ℕ) (buf : List ℕ) (done : ℕ) : Type 0 where
+pub record Reading (S : ℕ) (img ids : List ℕ) (offset : ℕ) (before : List ℕ) (count end turn : ℕ) (buf : List ℕ) (x done : ℕ) : Type 0 where
   pub asks : Readable S (length img) ids offset
   pub counted : count ≡ read_count S ids offset before
-  pub most : done ≤ count
+  pub stands : Turns S ids offset count end turn x done
   pub holds : buf ≡ splice before 0 (part (chain_bytes S img ids) offset done)
 
-pub reading_begun : (S : ℕ) (img ids : List ℕ) (offset : ℕ) (before : List ℕ) (count : ℕ) → Readable S (length img) ids offset → count ≡ read_count S ids offset before
-    → Reading S img ids offset before count before 0
+pub reading_begun : (S : ℕ) (img ids : List ℕ) (offset : ℕ) (before : List ℕ) (count end : ℕ) → Readable S (length img) ids offset → count ≡ read_count S ids offset before
+    → end ≡ div_ceil (offset + count) S → Reading S img ids offset before count end 0 before (offset % S) 0
 unfolding part
-reading_begun S img ids offset before count a e = record { asks = a; counted = e; most = omega arith; holds = sym (splice_nil before 0) }
+reading_begun S img ids offset before count end a c e = record {
+  asks = a;
+  counted = c;
+  stands = turns_begun S ids offset count end a.lies.some (omega (arith, c, count_within S ids offset before a.seeks)) e;
+  holds = sym (splice_nil before 0);
+}
 
-module _ {S : ℕ} {img ids : List ℕ} {offset : ℕ} {before : List ℕ} {count : ℕ} {buf : List ℕ} {done : ℕ} (g : Reading S img ids offset before count buf done) where
-  pub reading_fits : count ≤ length before
+module _ {S : ℕ} {img ids : List ℕ} {offset : ℕ} {before : List ℕ} {count end turn : ℕ} {buf : List ℕ} {x done : ℕ}
+    (g : Reading S img ids offset before count end turn buf x done) where
+  reading_fits : count ≤ length before
   reading_fits = omega (arith, g.counted, count_fits S ids offset before)
 
-  pub reading_within : offset + count ≤ S * length ids
-  reading_within = omega (arith, g.counted, count_within S ids offset before g.asks.seeks)
+  -- bytes that are read
+  run_long : (o k : ℕ) → o + k ≤ offset + count → length (part (chain_bytes S img ids) o k) ≡ k
+  run_long o k h = length_part (chain_bytes S img ids) o k (omega (arith, length_chain S img ids g.asks.lies, g.stands.few))
 
-  -- the bytes read so far
-  run_long : (k : ℕ) → k ≤ count → length (part (chain_bytes S img ids) offset k) ≡ k
-  run_long k h = length_part (chain_bytes S img ids) offset k (omega (arith, length_chain S img ids g.asks.lies, reading_within))
-
-  pub reading_length : length buf ≡ length before
+  reading_length : length buf ≡ length before
   reading_length =
-      ap length g.holds ∙ length_splice before 0 (part (chain_bytes S img ids) offset done) (omega (arith, run_long done g.most, g.most, reading_fits))
+      ap length g.holds
+      ∙ length_splice before 0 (part (chain_bytes S img ids) offset done) (omega (arith, run_long offset done (omega (arith, turns_done g.stands)), turns_done g.stands, reading_fits))
 
   -- all are read
-  pub reading_over : count ≤ done → ReadLeft S img ids offset before count buf
+  pub reading_over : length (lent_ids S offset end ids) ≤ turn → ReadLeft S img ids offset before count buf
   unfolding read_bytes
   reading_over h =
-      let all : done ≡ read_count S ids offset before = omega (arith, g.most, g.counted) in
+      let all : done ≡ read_count S ids offset before = turns_over g.stands h ∙ g.counted in
       record { count = g.counted; bytes = g.holds ∙ ap (λ (k : ℕ). splice before 0 (part (chain_bytes S img ids) offset k)) all }
 
-  -- a turn: the next byte stands in a listed sector, and a run of that sector is put behind what is read
-  module _ (more : done < count) where
-    reading_low : offset + done < S * length ids
-    reading_low = omega (arith, reading_within)
+  -- a turn: a run of the next sector is put behind what is read
+  pub reading_on : (stop : ℕ) (run : List ℕ) → turn < length (lent_ids S offset end ids) → stop ≡ min count (done + (S - x))
+      → run ≡ part (sector_of S img (get_or (lent_ids S offset end ids) turn 0)) x (length (take (stop - done) (drop done buf)))
+      → Reading S img ids offset before count end (turn + 1) (put_mid done (stop - done) buf run) 0 stop
+  unfolding part
+  reading_on stop run more step e = record {
+    asks = g.asks;
+    counted = g.counted;
+    stands = rw step (turns_on g.stands);
+    holds =
+        splice_next before 0 sofar next g.holds put
+        (omega (arith, sofar_long, next_long, reading_fits))
+        ∙ ap (splice before 0) (sym (part_append (chain_bytes S img ids) offset done (stop - done)) ∙ ap (part (chain_bytes S img ids) offset) whole);
+  }
+    where
+      sofar : List ℕ
+      sofar = part (chain_bytes S img ids) offset done
 
-    pub reading_stands : Stands S (length img) ids (offset + done)
-    reading_stands = record { lies = g.asks.lies; place = chain_place S img ids g.asks.lies (offset + done) reading_low }
+      next : List ℕ
+      next = part (chain_bytes S img ids) (offset + done) (stop - done)
 
-    pub reading_on : (step : ℕ) (run : List ℕ) → step ≤ S - (offset + done) % S → step ≤ count - done
-        → run ≡ part (sector_of S img (get_or ids ((offset + done) / S) 0)) ((offset + done) % S) (length (take (done + step - done) (drop done buf)))
-        → Reading S img ids offset before count (put_mid done (done + step - done) buf run) (done + step)
-    reading_on step run within left e = record {
-      asks = g.asks;
-      counted = g.counted;
-      most = omega arith;
-      holds =
-          splice_next before 0 sofar (part (chain_bytes S img ids) (offset + done) step) g.holds put
-          (omega (arith, run_long done g.most, next_long, reading_fits))
-          ∙ ap (splice before 0) (sym (part_append (chain_bytes S img ids) offset done step));
-    }
-      where
-        sofar : List ℕ
-        sofar = part (chain_bytes S img ids) offset done
+      whole : done + (stop - done) ≡ stop
+      whole = omega (arith, turns_done g.stands)
 
-        lent : length (take (done + step - done) (drop done buf)) ≡ step
-        lent = ap length (lent_run buf done step) ∙ length_part buf done step (omega (arith, reading_length, reading_fits))
+      sofar_long : length sofar ≡ done
+      sofar_long = run_long offset done (omega (arith, turns_done g.stands))
 
-        next_long : length (part (chain_bytes S img ids) (offset + done) step) ≡ step
-        next_long = length_part (chain_bytes S img ids) (offset + done) step (omega (arith, length_chain S img ids g.asks.lies, reading_within))
+      next_long : length next ≡ stop - done
+      next_long = run_long (offset + done) (stop - done) (omega (arith, turns_done g.stands))
 
-        ran : run ≡ part (chain_bytes S img ids) (offset + done) step
-        ran = e ∙ ap (part (sector_of S img (get_or ids ((offset + done) / S) 0)) ((offset + done) % S)) lent
-            ∙ sym (chain_run S img ids g.asks.lies (offset + done) step reading_low (omega (arith, stands_byte reading_stands)))
+      lent : length (take (stop - done) (drop done buf)) ≡ stop - done
+      lent = length_part buf done (stop - done) (omega (arith, reading_length, reading_fits, turns_done g.stands))
 
-        put : put_mid done (done + step - done) buf run ≡ splice buf (0 + length sofar) (part (chain_bytes S img ids) (offset + done) step)
-        put = back_run buf done step run (ap length ran ∙ next_long)
-            ∙ ap (splice buf done) ran
-            ∙ ap (λ (k : ℕ). splice buf k (part (chain_bytes S img ids) (offset + done) step)) (sym (run_long done g.most) ∙ sym (zero-add (length sofar)))
+      ran : run ≡ next
+      ran = e
+          ∙ ap (part (sector_of S img (get_or (lent_ids S offset end ids) turn 0)) x) lent
+          ∙ ap (λ (i : ℕ). part (sector_of S img i) x (stop - done)) (turns_id g.stands more)
+          ∙ ap (λ (k : ℕ). part (sector_of S img (get_or ids ((offset + done) / S) 0)) k (stop - done)) (sym (turns_offset g.stands more))
+          ∙ sym (chain_run S img ids g.asks.lies (offset + done) (stop - done) (turns_stand g.stands more g.asks.lies).place (turns_run g.stands more (stop - done) (omega arith)))
+
+      put : put_mid done (stop - done) buf run ≡ splice buf (0 + length sofar) next
+      put = put_mid_splice done (stop - done) buf run (ap length ran ∙ next_long)
+          ∙ ap (splice buf done) ran
+          ∙ ap (λ (k : ℕ). splice buf k next) (sym sofar_long ∙ sym (zero-add (length sofar)))

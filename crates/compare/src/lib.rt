@@ -7,13 +7,9 @@ pub mod strict;
 ghost use Rattle.std.specs.Prelude.{◌≡◌, min};
 ghost use Rattle.consts.specs.Consts.{invalid_sector};
 
-use fat::load::lesser;
-use fat::places::index;
-
 // Returns n, or 0xfffffffb if n is larger, in 32 bits: a regular entry is below it exactly if it is below n.
 pub fn limit_of(n: usize) -> u32
     ensures { result ≡ min n invalid_sector }
 {
-    let most = index(consts::INVALID_SECTOR);
-    lesser(n, most) as u32
+    n.min(consts::INVALID_SECTOR as usize) as u32
 }

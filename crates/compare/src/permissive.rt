@@ -14,13 +14,11 @@ use judge::marks::set_listed;
 pub fn forgiven(limit: u32, entry: u32) -> u32
     ensures { result ≡ forgiven_of limit entry }
 {
-    if entry > consts::MAX_REGULAR_SECTOR {
-        return entry;
+    if entry > consts::MAX_REGULAR_SECTOR || entry < limit {
+        entry
+    } else {
+        consts::END_OF_CHAIN
     }
-    if entry < limit {
-        return entry;
-    }
-    consts::END_OF_CHAIN
 }
 
 // Whether `fat` is `raw` with END for each regular entry at or above n, the number of entries.
@@ -29,13 +27,10 @@ pub fn is_forgiven(raw: &[u32], fat: &[u32]) -> bool
     ensures { result ≡ same_list fat.now (forgiven_fat (length fat.now) raw.now) }
 {
     let limit = limit_of(fat.len());
-    let mut same = true;
-    let mut i = 0;
-    while i < fat.len() {
-        same = same & (fat[i] == forgiven(limit, raw[i]));
-        i += 1;
-    }
-    same
+    fat.iter().zip(raw).fold(
+        true,
+        |same, (entry, own)| same & (*entry == forgiven(limit, *own)),
+    )
 }
 
 // Whether a FAT is the image's, marked and forgiven. The room, as long as the FAT, is written over.

@@ -6,8 +6,6 @@ ghost use Rattle.fat.specs.Loaded.{Covers};
 ghost use Rattle.compare.specs.Compare.{entries_kept, entry_kept, strict_same};
 
 use crate::limit_of;
-use fat::load::lesser;
-use fat::places::index;
 use judge::marks::listed_marked;
 
 // Whether an entry in memory is the image's own, and is below the limit or not regular (refusal 15).
@@ -22,14 +20,11 @@ pub fn entries_kept(limit: u32, sector: &[u8], fat: &[u32]) -> bool
     requires { 4 * length fat.now ≤ length sector.now }
     ensures { result ≡ entries_kept limit (entry_in sector.now) fat.now }
 {
-    let mut kept = true;
-    let mut j = 0;
-    while j < fat.len() {
-        let own = sectors::entry(sector, j);
-        kept = kept & entry_kept(limit, own, fat[j]);
-        j += 1;
-    }
-    kept
+    let (owns, _) = sector.as_chunks::<4>();
+    fat.iter().zip(owns).fold(
+        true,
+        |kept, (entry, own)| kept & entry_kept(limit, u32::from_le_bytes(*own), *entry),
+    )
 }
 
 // The same for sector id of an image.
@@ -48,17 +43,10 @@ pub fn fat_kept(limit: u32, image: &[u8], s: usize, fats: &[u32], fat: &[u32]) -
     requires { Covers s (length fat.now) (length image.now) fats.now (length fat.now) }
     ensures { result ≡ entries_kept limit (entry_of s image.now fats.now) fat.now }
 {
-    let each = s / 4;
-    let mut kept = true;
-    let mut p = 0;
-    while p < fats.len() {
-        let a = p * each;
-        let b = lesser(a + each, fat.len());
-        let id = index(fats[p]);
-        kept = kept & sector_kept(limit, image, s, id, &fat[a..b]);
-        p += 1;
-    }
-    kept
+    fats.iter().zip(fat.chunks(s / 4)).fold(
+        true,
+        |kept, (id, part)| kept & sector_kept(limit, image, s, *id as usize, part),
+    )
 }
 
 // Whether a FAT is the image's, its regular entries are below n, and its listed sectors have their marks (refusal 14).

@@ -1,5 +1,5 @@
 -- The numbers of the refusals (document 01's tables). Assumes nothing.
-use Rattle.std.specs.Prelude.{ℕ, Result, Ok, Err}
+use Rattle.std.specs.Prelude.{ℕ, ◌≡◌, Result, Ok, Err, IfOk}
 use Rattle.consts.specs.declared.refusal.Refusal.{Refusal}
 use Rattle.consts.specs.declared.refusal.Refusal.TheVariants.{TooShort, Signature, ByteOrder, Version, SectorShift, MiniSectorShift, DirSectors, Cutoff, HeaderList, WholeSectors, ShortTable, FatLists, FatTail, Unmarked, PastEnd, PointedTwice, InvalidEntry, FreePointee, Disagrees, BadStart, BrokenChain, Loop, Offset, NoRoom, MidChain, PermissiveChange}
 
@@ -36,3 +36,8 @@ number_of PermissiveChange = 26
 abbrev pub ends_with : {A : Type 0} → Result A Refusal → ℕ
 ends_with (Ok x) = 0
 ends_with (Err e) = number_of e
+
+-- an answer that ends with k, and carries v where that is 0
+pub record Ends {A : Type 0} (k : ℕ) (v : A) (r : Result A Refusal) : Type 0 where
+  pub number : ends_with r ≡ k
+  pub value : IfOk r (λ x. x ≡ v)

@@ -1,6 +1,6 @@
 // Why a call refuses, and the number that the specification gives each cause.
 ghost use Rattle.std.specs.Prelude.{◌≡◌};
-ghost use Rattle.consts.specs.Refusals.{number_of};
+ghost use Rattle.consts.specs.Refusals.{number_of, ends_with};
 
 use std::error::Error;
 use std::fmt;
@@ -95,6 +95,16 @@ impl Refusal {
             Refusal::MidChain => 25,
             Refusal::PermissiveChange => 26,
         }
+    }
+}
+
+// The number that an answer ends with: 0 for an acceptance.
+pub fn ends_with<T>(answer: &Result<T, Refusal>) -> u32
+    ensures { result ≡ ends_with answer.now }
+{
+    match answer {
+        Ok(_) => 0,
+        Err(refusal) => refusal.number(),
     }
 }
 

@@ -2,4 +2,3 @@ pub mod Counting
 pub mod Fitting
 pub mod Growing
 pub mod Keeping
-pub mod Storing

@@ -9,8 +9,8 @@ use Rattle.lists.specs.Lists.{choose, Below}
 use Rattle.alloc.specs.Opening.{Tables}
 use Rattle.hand.specs.Hand.{Chain}
 use Rattle.moves.specs.declared.change.Edit.{Edit}
-use Rattle.cfb.specs.Calls.{answer_no}
 use Rattle.cfb.specs.Changes.{state_from, tables_in, start_in, Changes, ChainEdits}
+use Rattle.consts.specs.Refusals.{ends_with}
 use Rattle.cfb.specs.declared.State.{State}
 use Rattle.cfb.specs.declared.Called.{Called}
 use Rattle.states.specs.States.{state_words, holds, held_in}
@@ -49,7 +49,7 @@ change_refused words img t ids k after bytes ids' b h none z =
 
 -- what it gives on words that hold one
 module _ (words img : List ℕ) (t : Tables) (ids : List ℕ) (s : State) (r : Called) (img' : List ℕ) (t' : Tables) (ids' : List ℕ) (b : Bool) (h : b ≡ holds words) (some : b ≡ true) (e : s ≡ held_in words) (again : state_words s ≡ words)
-    (no : ℕ) (told words' : List ℕ) (n : no ≡ answer_no r.answer) (w : words' ≡ state_words r.state) (a : told ≡ answer_words r.answer) where
+    (no : ℕ) (told words' : List ℕ) (n : no ≡ ends_with r.answer) (w : words' ≡ state_words r.state) (a : told ≡ answer_words r.answer) where
   change_given : (k : ℕ) (after : Chain) (bytes : ℕ) → Changes (held_in words) img t ids k after bytes r img' t' ids' → ChangeGives words img t ids (held_no words k) after bytes no told words' img' t' ids'
   change_given k after bytes says =
       let held : holds words ≡ true = sym h ∙ some in

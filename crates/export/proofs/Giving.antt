@@ -8,7 +8,8 @@ use lib.ListN.{length, replicate}
 use Rattle.lists.specs.Lists.{choose}
 use Rattle.chain.specs.Bytes.{read_count, read_bytes}
 use Rattle.alloc.specs.Opening.{Tables}
-use Rattle.cfb.specs.Calls.{state_len, chain_no, chain_ids, read_no, ids_left, ChainOpens, ChainReads, answer_no}
+use Rattle.cfb.specs.Calls.{state_len, chain_no, chain_ids, read_no, ids_left, ChainOpens, ChainReads}
+use Rattle.consts.specs.Refusals.{ends_with}
 use Rattle.cfb.specs.declared.State.{State}
 use Rattle.cfb.specs.declared.Called.{Called}
 use Rattle.states.specs.States.{holds, held_in}
@@ -55,7 +56,7 @@ module _ (words img : List ℕ) (t : Tables) (ids : List ℕ) (start : ℕ) (ids
       }
 
 -- what they give on words that hold one
-module _ (words img : List ℕ) (t : Tables) (ids : List ℕ) (start : ℕ) (s : State) (r : Called) (img' : List ℕ) (t' : Tables) (ids' : List ℕ) (b : Bool) (h : b ≡ holds words) (some : b ≡ true) (e : s ≡ held_in words) (no : ℕ) (words' : List ℕ) (n : no ≡ answer_no r.answer) (w : words' ≡ answer_words r.answer) where
+module _ (words img : List ℕ) (t : Tables) (ids : List ℕ) (start : ℕ) (s : State) (r : Called) (img' : List ℕ) (t' : Tables) (ids' : List ℕ) (b : Bool) (h : b ≡ holds words) (some : b ≡ true) (e : s ≡ held_in words) (no : ℕ) (words' : List ℕ) (n : no ≡ ends_with r.answer) (w : words' ≡ answer_words r.answer) where
   held : holds words ≡ true
   held = sym h ∙ some
 

@@ -2,23 +2,26 @@
 // None asks anything of its caller: every number and every slice has an answer.
 #![tactic(auto)]
 
-ghost use Rattle.std.specs.Prelude.{◌≡◌, length};
+ghost use Rattle.std.specs.Prelude.{◌≡◌, length, replicate};
 ghost use Rattle.consts.specs.Kinds.{kind_of};
 ghost use Rattle.consts.specs.Pretty.{item_at};
 ghost use Rattle.header.specs.Read.{read_no, header_left};
 ghost use Rattle.items.specs.Items.{kind_number, item_number, item_numbers, named_of, named_text};
 ghost use Rattle.layout.specs.Layout.{mode_of, words_of, written_no, bytes_left};
+ghost use Rattle.tables.specs.Tables.{tables_in, SameTables};
 ghost use Rattle.export.specs.Opening.{OpenGives};
 ghost use Rattle.export.specs.Chains.{OpenChainGives, ReadChainGives};
 ghost use Rattle.export.specs.Changes.{EditChainGives, WriteChainGives, ResizeChainGives};
 
 use cfb::State;
-use header::{Header, Numbered, Version};
+use consts::refusal::{Refusal, ends_with};
+use header::{Header, Version};
 use items::{item_named, item_numbers, named_text, number_of_item, number_of_kind};
 use layout::{header_with, mode_of, words_of};
 use moves::change::Edit;
 use states::told::{give, words_of_answer};
 use states::{holds_state, state_in, words_of_state};
+use tables::{Tables, TablesMut};
 use texts::Text;
 
 // Reads a header: 0, or the number of the refusal; `words` then hold the header, or what stands beside the refusal. Mode 0 is permissive.
@@ -27,11 +30,12 @@ pub fn rasuvelk_read_header(bytes: &[u8], mode: u32, words: &mut [u32; 117]) -> 
     ensures words_after { words.new ≡ words_of (header_left (mode_of mode) bytes.now) }
 {
     let read = Header::read_from(bytes, mode_of(mode));
-    let header = read.header;
-    let held = words_of(header);
-    *words = held;
-    let verdict = read.verdict;
-    verdict.number()
+    let header = match read {
+        Ok(header) => header,
+        Err(_) => Header::none(),
+    };
+    *words = words_of(header);
+    ends_with(&read)
 }
 
 // Writes a header over the first 512 bytes: 0, or the number of the refusal, which leaves every byte. A version that is none is judged first.
@@ -39,14 +43,10 @@ pub fn rasuvelk_write_header(words: &[u32; 117], buf: &mut [u8]) -> u32
     ensures value { result ≡ written_no words.now (length buf.old) }
     ensures buf_after { buf.new ≡ bytes_left words.now buf.old }
 {
-    let numbered = Version::from_number(words[0]);
-    let Numbered::Known(version) = numbered else {
-        return 4;
-    };
-    let held = *words;
-    let header = header_with(version, held);
-    let verdict = header.write_to(buf);
-    verdict.number()
+    match Version::try_from(words[0]) {
+        Ok(version) => ends_with(&header_with(version, *words).write_to(buf)),
+        Err(refusal) => refusal.number(),
+    }
 }
 
 // Opens an image of which `used` bytes are used: 0, or the number of the refusal; `state` then holds the state's words, and the tables what the opening leaves in them. Mode 0 is permissive.
@@ -63,12 +63,27 @@ pub fn rasuvelk_open(
 ) -> u32
     ensures { OpenGives mode image.now used (record { fat = fat.old; fats = fats.old; difats = difats.old; frees = frees.old; marks = marks.old }) result state.new image.now (record { fat = fat.new; fats = fats.new; difats = difats.new; frees = frees.new; marks = marks.new }) }
 {
-    let opened = State::open(image, used, mode_of(mode), fat, fats, difats, frees, marks);
-    let left = opened.state;
-    let held = words_of_state(left);
-    *state = held;
-    let verdict = opened.verdict;
-    verdict.number()
+    let mut tables = TablesMut {
+        fat,
+        fats,
+        difats,
+        frees,
+        marks,
+    };
+    let opened = State::open(image, used, mode_of(mode), &mut tables);
+    *state = words_of_state(opened.state);
+    opened.number()
+}
+
+// Refuses words that hold no state, by 19: the id list and the answer are zero then.
+fn refuse_words(ids: &mut [u32], answer: &mut [u64; 3]) -> u32
+    ensures value { result ≡ 19 }
+    ensures ids_after { ids.new ≡ replicate (length ids.old) 0 }
+    ensures answer_after { answer.new ≡ replicate 3 0 }
+{
+    ids.fill(0);
+    *answer = [0u64; 3];
+    Refusal::Disagrees.number()
 }
 
 // Opens a chain from `start` on: 0, or the number of the refusal; `answer` then holds how many ids, the start and 0, or zeros, and `ids` what the call leaves in it. Words that hold no state are refused by 19 before anything else, and `ids` are zeros then.
@@ -88,16 +103,18 @@ pub fn rasuvelk_open_chain(
 {
     let lent = *state;
     if !holds_state(lent) {
-        words::fill32(ids, 0);
-        *answer = [0u64; 3];
-        return 19;
+        return refuse_words(ids, answer);
     }
-    let held = state_in(lent);
-    let called = held.open_chain(image, fat, fats, difats, frees, marks, ids, start);
-    let told = called.answer;
-    let numbers = words_of_answer(told);
-    *answer = numbers;
-    told.number()
+    let tables = Tables {
+        fat,
+        fats,
+        difats,
+        frees,
+        marks,
+    };
+    let called = state_in(lent).open_chain(image, tables, ids, start);
+    *answer = words_of_answer(called.answer);
+    called.number()
 }
 
 // Reads a chain from byte `offset` on into the front of `buf`: 0, or the number of the refusal, which leaves `buf`; `answer` then holds how many ids, the start and how many bytes were read, or zeros. Words that hold no state are refused by 19 as above.
@@ -119,47 +136,39 @@ pub fn rasuvelk_read_chain(
 {
     let lent = *state;
     if !holds_state(lent) {
-        words::fill32(ids, 0);
-        *answer = [0u64; 3];
-        return 19;
+        return refuse_words(ids, answer);
     }
-    let held = state_in(lent);
-    let called = held.read(
-        image, fat, fats, difats, frees, marks, ids, start, offset, buf,
-    );
-    let told = called.answer;
-    let numbers = words_of_answer(told);
-    *answer = numbers;
-    told.number()
+    let tables = Tables {
+        fat,
+        fats,
+        difats,
+        frees,
+        marks,
+    };
+    let called = state_in(lent).read(image, tables, ids, start, offset, buf);
+    *answer = words_of_answer(called.answer);
+    called.number()
 }
 
 // Makes an edit of a chain: 0, or the number of the refusal, which leaves all but `ids` and `answer`. Words that hold no state are refused by 19 as above.
 fn change_chain(
     state: &mut [u64; 121],
     image: &mut [u8],
-    fat: &mut [u32],
-    fats: &mut [u32],
-    difats: &mut [u32],
-    frees: &mut [u32],
-    marks: &mut [u8],
+    tables: &mut TablesMut<'_>,
     ids: &mut [u32],
     start: u32,
     edit: Edit,
     buf: &[u8],
     answer: &mut [u64; 3],
 ) -> u32
-    ensures { EditChainGives state.old image.old (record { fat = fat.old; fats = fats.old; difats = difats.old; frees = frees.old; marks = marks.old }) ids.old start edit buf.now result answer.new state.new image.new (record { fat = fat.new; fats = fats.new; difats = difats.new; frees = frees.new; marks = marks.new }) ids.new }
+    ensures same { SameTables tables.old tables.new }
+    ensures gives { EditChainGives state.old image.old (tables_in tables.old) ids.old start edit buf.now result answer.new state.new image.new (tables_in tables.new) ids.new }
 {
     let lent = *state;
     if !holds_state(lent) {
-        words::fill32(ids, 0);
-        *answer = [0u64; 3];
-        return 19;
+        return refuse_words(ids, answer);
     }
-    let held = state_in(lent);
-    let called = held.change(
-        image, fat, fats, difats, frees, marks, ids, start, edit, buf,
-    );
+    let called = state_in(lent).change(image, tables, ids, start, edit, buf);
     give(called, state, answer)
 }
 
@@ -180,20 +189,15 @@ pub fn rasuvelk_write_chain(
 ) -> u32
     ensures { WriteChainGives state.old image.old (record { fat = fat.old; fats = fats.old; difats = difats.old; frees = frees.old; marks = marks.old }) ids.old start offset buf.now result answer.new state.new image.new (record { fat = fat.new; fats = fats.new; difats = difats.new; frees = frees.new; marks = marks.new }) ids.new }
 {
-    change_chain(
-        state,
-        image,
+    let mut tables = TablesMut {
         fat,
         fats,
         difats,
         frees,
         marks,
-        ids,
-        start,
-        Edit::Write(offset),
-        buf,
-        answer,
-    )
+    };
+    let edit = Edit::Write(offset);
+    change_chain(state, image, &mut tables, ids, start, edit, buf, answer)
 }
 
 // Resizes a chain to the sectors that `length` bytes ask for: 0, or the number of the refusal, likewise; no bytes are told of.
@@ -212,21 +216,15 @@ pub fn rasuvelk_resize_chain(
 ) -> u32
     ensures { ResizeChainGives state.old image.old (record { fat = fat.old; fats = fats.old; difats = difats.old; frees = frees.old; marks = marks.old }) ids.old start length result answer.new state.new image.new (record { fat = fat.new; fats = fats.new; difats = difats.new; frees = frees.new; marks = marks.new }) ids.new }
 {
-    let none = [0u8; 0];
-    change_chain(
-        state,
-        image,
+    let mut tables = TablesMut {
         fat,
         fats,
         difats,
         frees,
         marks,
-        ids,
-        start,
-        Edit::Resize(length),
-        &none,
-        answer,
-    )
+    };
+    let edit = Edit::Resize(length);
+    change_chain(state, image, &mut tables, ids, start, edit, &[], answer)
 }
 
 // Frees a whole chain: resizes it to 0.
@@ -244,20 +242,8 @@ pub fn rasuvelk_free_chain(
 ) -> u32
     ensures { ResizeChainGives state.old image.old (record { fat = fat.old; fats = fats.old; difats = difats.old; frees = frees.old; marks = marks.old }) ids.old start 0 result answer.new state.new image.new (record { fat = fat.new; fats = fats.new; difats = difats.new; frees = frees.new; marks = marks.new }) ids.new }
 {
-    let none = [0u8; 0];
-    change_chain(
-        state,
-        image,
-        fat,
-        fats,
-        difats,
-        frees,
-        marks,
-        ids,
-        start,
-        Edit::Resize(0),
-        &none,
-        answer,
+    rasuvelk_resize_chain(
+        state, image, fat, fats, difats, frees, marks, ids, start, 0, answer,
     )
 }
 

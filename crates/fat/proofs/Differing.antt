@@ -1,16 +1,17 @@
 -- The laws of lists of sectors: numbers below a bound, and numbers that differ. Assumes nothing.
 use Prim.Native.Nat.{ℕ, ◌+◌, ◌≤◌, ◌<◌}
 use mathlib.Core.Path.{◌≡◌, sym, ◌∙◌, ap}
-use mathlib.Core.Bool.{Bool, true, false, not}
+use mathlib.Core.Bool.{Bool, true, not}
 use mathlib.Core.List.{List}
-use mathlib.Core.Logic.{◌↔◌, ◌⊎◌, ⊎_elim, ◌≢◌}
+use mathlib.Core.Logic.{◌↔◌, ⊎_elim, ◌≢◌}
 use native.Mathlib.Omega.{arith}
-use borrow.Author.Tests.{lt-ltb, ltb-true, eq-eqb, ne_eqb, eqb-true, eqb-false, not-true}
+use borrow.Author.Tests.{lt-ltb, ltb-true, eq-eqb, eqb-true, eqb-false, not-true}
 use lib.Dec.{eqb, ltb}
 use lib.ListN.{length, get_or, set}
 use lib.Seq.{get_or-set_same, get_or-set_other}
+use Rattle.std.proofs.lemmas.Grind.{get_or_default_zero}
 use Rattle.lists.specs.Lists.{every}
-use Rattle.lists.proofs.Cases.{same_or, below_or, every_at, every_yes, every_no, unlike, every_of, same_test}
+use Rattle.lists.proofs.Cases.{same_or, below_or, every_at, unlike, every_of, same_test}
 use Rattle.fat.specs.Lists.{all_below, different}
 
 -- every number is below n, at each place
@@ -27,6 +28,10 @@ below_exactly n xs = (below_at n xs, below_of n xs)
 
 pub below_kept : (n m : ℕ) (xs : List ℕ) → m ≡ n → all_below n xs ≡ true → all_below m xs ≡ true
 below_kept n m xs e t = rw e t
+
+-- so at what an iterator over the list has left
+pub below_left : (n : ℕ) (xs left : List ℕ) → left ≡ xs → all_below n xs ≡ true → (i d : ℕ) → i < length left → get_or left i d < n
+below_left n xs left e t i d h = rw (get_or_default_zero left i d h) (below_at n left (rw e t) i h)
 
 -- an index that a list of such numbers gives
 pub below_given : (n m : ℕ) (xs : List ℕ) (i at : ℕ) → all_below n xs ≡ true → i < length xs → at ≡ get_or xs i 0 → m ≡ n → at < m
@@ -100,17 +105,3 @@ places_tell xs ps placed =
     same_test (every (length xs) (stands_at xs ps)) (different xs)
     (λ t. different_of xs (λ i j hi hj e. sym (stored_own xs ps t i hi) ∙ ap (λ (x : ℕ). get_or ps x 0) e ∙ stored_own xs ps t j hj))
     (λ t. every_of (length xs) (stands_at xs ps) (λ j hj. eq-eqb _ j (different_at xs t (get_or ps (get_or xs j 0) 0) j (placed j hj).0 hj (placed j hj).1)))
-
--- a loop that compares numbers in turn and keeps a flag: one more turn, whichever way it came
-pub compared : {P Q : Type 0} (f g : ℕ → ℕ) (j a : ℕ) (flag next : Bool) → a ≡ f j → flag ≡ every j (λ k. eqb (f k) (g k)) → P ⊎ Q
-    → (P → (a ≡ g j → ⊥) × (next ≡ false)) → (Q → (a ≡ g j) × (next ≡ flag)) → next ≡ every (j + 1) (λ k. eqb (f k) (g k))
-compared f g j a flag next read e came other same =
-    ⊎_elim
-    (λ p. every_no (λ k. eqb (f k) (g k)) j next (ne_eqb (f j) (g j) (λ s. (other p).0 (read ∙ s))) (other p).1)
-    (λ q. every_yes (λ k. eqb (f k) (g k)) j flag next (eq-eqb (f j) (g j) (sym read ∙ (same q).0)) e (same q).1)
-    came
-
--- so where what is compared is read at the numbers of a list
-pub listed_turn : {P Q : Type 0} (fat ids : List ℕ) (g : ℕ → ℕ) (j at a : ℕ) (flag next : Bool) → at ≡ get_or ids j 0 → a ≡ get_or fat at 0 → flag ≡ every j (λ k. eqb (listed_at fat ids k) (g k)) → P ⊎ Q
-    → (P → (a ≡ g j → ⊥) × (next ≡ false)) → (Q → (a ≡ g j) × (next ≡ flag)) → next ≡ every (j + 1) (λ k. eqb (listed_at fat ids k) (g k))
-listed_turn fat ids g j at a flag next p q = compared (listed_at fat ids) g j a flag next (q ∙ ap (λ (k : ℕ). get_or fat k 0) p)

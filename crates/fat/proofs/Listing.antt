@@ -1,17 +1,15 @@
 -- The laws of the lists as a whole (document 01, 12). Assumes nothing.
-use Prim.Native.Nat.{ℕ, ◌+◌, ◌-◌, ◌*◌, ◌^◌, ◌/◌, ◌≤◌, ◌<◌, min}
+use Prim.Native.Nat.{ℕ, ◌+◌, ◌-◌, ◌*◌, ◌^◌, ◌/◌, ◌%◌, ◌≤◌, ◌<◌, min}
 use mathlib.Core.Path.{◌≡◌, refl, sym, ◌∙◌, ap}
 use mathlib.Core.Bool.{Bool, true, false}
 use mathlib.Core.List.{List}
 use mathlib.Core.Logic.{⊎_elim}
 use native.Mathlib.Nat.{div-mul-le_self, lt-div-mul-add, mul-le-mul_right, add-mul, one-mul}
 use native.Mathlib.Omega.{arith}
-use borrow.Author.Tests.{eq-eqb}
-use lib.Dec.{eqb}
 use lib.ListN.{length}
+use Rattle.std.proofs.lemmas.Grind.{div_ceil_times}
 use Rattle.lists.specs.Lists.{both}
 use Rattle.lists.proofs.Cases.{below_or, both_left, both_right, both_false_left, both_false_right, not_both}
-use Rattle.fields.specs.Fields.{ids_in}
 use Rattle.header.specs.declared.Header.{Header}
 use Rattle.fat.specs.Lists.{ceil, fat_count, difat_count, counts_right, difat_at, difats_of, fats_of, all_below, different, ends, chain_right, rest_free, ids_right, fats_right, difats_in, fats_in, lists_right}
 use Rattle.fat.specs.Loaded.{ChainListed, Places, PlacesListed, Loads, ListsLoaded, Counted}
@@ -24,14 +22,14 @@ pub below_more : (n m : ℕ) (xs : List ℕ) → n ≤ m → all_below n xs ≡ 
 below_more n m xs h t = below_of m xs (λ i l. omega (arith, below_at n xs t i l))
 
 -- a refused loading says nothing of the list
-pub loads_not : (test : Bool) (xs after : List ℕ) → test ≡ false → Loads test xs false after
-loads_not test xs after e = record { right = sym e; list = λ t. absurd (not_both t refl) }
+pub loads_not : (test r : Bool) (xs after : List ℕ) → r ≡ false → test ≡ false → Loads test xs r after
+loads_not test r xs after n e = record { right = n ∙ sym e; list = λ t. absurd (not_both t n) }
 
 -- the DIFAT chain: not listed, or listed and then different or not
 module _ (S : ℕ) (img : List ℕ) (n first d : ℕ) where
-  pub chain_not : (r : Bool) (now : List ℕ) → ChainListed S img n first d r now → r ≡ false → Loads (chain_right S img first n d) (difats_of S img first d) false now
+  pub chain_not : (r : Bool) (now : List ℕ) → ChainListed S img n first d r now → r ≡ false → Loads (chain_right S img first n d) (difats_of S img first d) r now
   unfolding chain_right
-  chain_not r now c e = loads_not _ _ now (split (all_below n (difats_of S img first d)) (different (difats_of S img first d)) (ends (difat_at S img first d)) (sym c.right ∙ e))
+  chain_not r now c e = loads_not _ r _ now e (split (all_below n (difats_of S img first d)) (different (difats_of S img first d)) (ends (difat_at S img first d)) (sym c.right ∙ e))
     where
       split : (a b e : Bool) → both a e ≡ false → both a (both b e) ≡ false
       split true b e h = both_false_right b e h
@@ -57,14 +55,14 @@ module _ (S : ℕ) (img : List ℕ) (n first d : ℕ) where
 
 -- the FAT's list: not listed, not followed by FREE, or both and then different or not
 module _ (S : ℕ) (img : List ℕ) (n : ℕ) (list difats : List ℕ) (k : ℕ) where
-  pub fats_not : (r : Bool) (now : List ℕ) → PlacesListed S img n list difats k r now → r ≡ false → Loads (fats_right S img n list difats k) (fats_of S img list difats k) false now
+  pub fats_not : (r : Bool) (now : List ℕ) → PlacesListed S img n list difats k r now → r ≡ false → Loads (fats_right S img n list difats k) (fats_of S img list difats k) r now
   unfolding fats_right ids_right
   fats_not r now c e =
-      loads_not _ _ now (both_false_right (rest_free S img list difats k (length difats)) _ (both_false_left _ (different (fats_of S img list difats k)) (sym c.right ∙ e)))
+      loads_not _ r _ now e (both_false_right (rest_free S img list difats k (length difats)) _ (both_false_left _ (different (fats_of S img list difats k)) (sym c.right ∙ e)))
 
-  pub fats_more : (now : List ℕ) → rest_free S img list difats k (length difats) ≡ false → Loads (fats_right S img n list difats k) (fats_of S img list difats k) false now
+  pub fats_more : (q : Bool) (now : List ℕ) → q ≡ rest_free S img list difats k (length difats) → q ≡ false → Loads (fats_right S img n list difats k) (fats_of S img list difats k) q now
   unfolding fats_right
-  fats_more now e = loads_not _ _ now (both_false_left _ (ids_right n (fats_of S img list difats k)) e)
+  fats_more q now f e = loads_not _ q _ now e (both_false_left _ (ids_right n (fats_of S img list difats k)) (sym f ∙ e))
 
   pub fats_below : (r : Bool) (now : List ℕ) → PlacesListed S img n list difats k r now → r ≡ true → all_below n now ≡ true
   fats_below r now c e = ap (all_below n) (c.listed e) ∙ sym c.right ∙ e
@@ -75,11 +73,6 @@ module _ (S : ℕ) (img : List ℕ) (n : ℕ) (list difats : List ℕ) (k : ℕ)
   fats_load r q now c e f g =
       record { right = g ∙ ap different (c.listed e) ∙ sym (rw (f, sym c.right ∙ e)); list = λ t. c.listed e }
 
--- the counts, once the first two are seen to be right
-pub counts_same : (h : Header) (k d ids m : ℕ) → h.fats ≡ k → h.difats ≡ d → ids ≡ ids_in h.list → m ≡ min k 109 → eqb ids m ≡ counts_right h k d
-unfolding counts_right
-counts_same h k d ids m ek ed ei em = sym (rw (eq-eqb _ _ ek, eq-eqb _ _ ed, ← ei, ← em))
-
 -- the counts of lists that n sectors ask for are small, and their places reach as far as they must
 pub ceil_enough : (a b : ℕ) → 1 ≤ b → (a ≤ ceil a b * b) × (ceil a b * b < a + b)
 unfolding ceil
@@ -87,6 +80,20 @@ ceil_enough a b h =
     let low : (a + (b - 1)) / b * b ≤ a + (b - 1) = div-mul-le_self (a + (b - 1)) b in
     let high : a + (b - 1) < (a + (b - 1)) / b * b + b = lt-div-mul-add {a = a + (b - 1)} {b = b} h in
     (omega arith, omega arith)
+
+-- so std's quotient is this one
+pub ceil_is : (a b : ℕ) → 1 ≤ b → a / b + min 1 (a % b) ≡ ceil a b
+ceil_is a b h = one (a / b + min 1 (a % b)) (ceil a b) (div_ceil_times a b h) (ceil_enough a b h)
+  where
+    low : (q r : ℕ) → q < r → q * b + b ≤ r * b
+    low q r l = let more : (q + 1) * b ≤ r * b = mul-le-mul_right b (omega arith) in omega (arith, add-mul q 1 b, one-mul b)
+
+    one : (q r : ℕ) → (a ≤ q * b) × (q * b < a + b) → (a ≤ r * b) × (r * b < a + b) → q ≡ r
+    one q r s t =
+        ⊎_elim
+        (λ (l : q < r). absurd (omega (arith, low q r l, s.0, t.1)))
+        (λ (g : r ≤ q). ⊎_elim (λ (l : r < q). absurd (omega (arith, low r q l, s.1, t.0))) (λ (k : q ≤ r). omega arith) (below_or r q))
+        (below_or q r)
 
 pub ceil_few : (a b : ℕ) → 1 ≤ b → ceil a b ≤ a
 ceil_few a b h =
@@ -119,15 +126,15 @@ module _ (S : ℕ) (img : List ℕ) (h : Header) (n k d : ℕ) (ek : k ≡ fat_c
   unfolding lists_right difats_in
   by_counts = rw (ed, ek)
 
-  not_right : (fats difats : List ℕ) → lists_right S img h n ≡ false → ListsLoaded S img h n false fats difats
-  not_right fats difats e = record { right = sym e; difats_hold = λ t. absurd (not_both t refl); fats_hold = λ t. absurd (not_both t refl) }
+  not_right : (r : Bool) (fats difats : List ℕ) → r ≡ false → lists_right S img h n ≡ false → ListsLoaded S img h n r fats difats
+  not_right r fats difats f e = record { right = f ∙ sym e; difats_hold = λ t. absurd (not_both t f); fats_hold = λ t. absurd (not_both t f) }
 
-  pub lists_not_counts : (fats difats : List ℕ) → counts_right h k d ≡ false → ListsLoaded S img h n false fats difats
-  lists_not_counts fats difats e = not_right fats difats (by_counts ∙ both_false_left _ _ e)
+  pub lists_not_counts : (r : Bool) (fats difats : List ℕ) → r ≡ counts_right h k d → r ≡ false → ListsLoaded S img h n r fats difats
+  lists_not_counts r fats difats c e = not_right r fats difats e (by_counts ∙ both_false_left _ _ (sym c ∙ e))
 
-  pub lists_not_chain : (fats difats : List ℕ) (r : Bool) → Loads (chain_right S img h.difat n d) (difats_of S img h.difat d) r difats → r ≡ false → ListsLoaded S img h n false fats difats
-  lists_not_chain fats difats r l e =
-      not_right fats difats (by_counts ∙ both_false_right (counts_right h k d) _ (both_false_left _ (fats_right S img n h.list (difats_of S img h.difat d) k) (sym l.right ∙ e)))
+  pub lists_not_chain : (r : Bool) (fats difats : List ℕ) → Loads (chain_right S img h.difat n d) (difats_of S img h.difat d) r difats → r ≡ false → ListsLoaded S img h n r fats difats
+  lists_not_chain r fats difats l e =
+      not_right r fats difats e (by_counts ∙ both_false_right (counts_right h k d) _ (both_false_left _ (fats_right S img n h.list (difats_of S img h.difat d) k) (sym l.right ∙ e)))
 
   pub lists_load : (fats difats : List ℕ) (r q : Bool) → counts_right h k d ≡ true → Loads (chain_right S img h.difat n d) (difats_of S img h.difat d) r difats → r ≡ true
       → Loads (fats_right S img n h.list difats k) (fats_of S img h.list difats k) q fats → ListsLoaded S img h n q fats difats

@@ -13,24 +13,14 @@ pub fn ceil(a: usize, b: usize) -> usize
     requires { (1 ≤ b) × (a + b < 2 ^ 63) }
     ensures { result ≡ ceil_of a b }
 {
-    (a + (b - 1)) / b
+    a.div_ceil(b)
 }
 
 // Whether the header counts k FAT sectors and d DIFAT sectors, and its list has the ids of the first.
 pub fn counts_right(h: Header, k: usize, d: usize) -> bool
     ensures { result ≡ counts_right h k d }
 {
-    if h.fats as usize != k {
-        return false;
-    }
-    if h.difats as usize != d {
-        return false;
-    }
-    let ids = h.ids();
-    if k < 109 {
-        return ids == k;
-    }
-    ids == 109
+    h.fats as usize == k && h.difats as usize == d && h.ids() == k.min(109)
 }
 
 // Loads the sectors of the DIFAT chain, as many as the list has room for, and says whether they are right.
@@ -46,10 +36,7 @@ pub fn load_difats(
     requires difats_len_bound { (length difats.old ≤ 65536) × (n ≤ length scratch.old) }
     ensures { Loads (chain_right s image.now first n (length difats.old)) (difats_of s image.now first (length difats.old)) result difats.new }
 {
-    if !list_difats(image, s, n, first, difats) {
-        return false;
-    }
-    different(difats, scratch)
+    list_difats(image, s, n, first, difats) && different(difats, scratch)
 }
 
 // Loads the sectors of the FAT, as many as the list has room for, and says whether they are right and FREE follows them.
@@ -66,13 +53,9 @@ pub fn load_fats(
     requires fats_len_bound { (length fats.old ≤ 65536) × (n ≤ length scratch.old) }
     ensures { Loads (fats_right s image.now n list.now difats.now (length fats.old)) (fats_of s image.now list.now difats.now (length fats.old)) result fats.new }
 {
-    if !list_fats(image, s, n, list, difats, fats) {
-        return false;
-    }
-    if !rest_free(image, s, n, list, difats, fats.len()) {
-        return false;
-    }
-    different(fats, scratch)
+    list_fats(image, s, n, list, difats, fats)
+        && rest_free(image, s, n, list, difats, fats.len())
+        && different(fats, scratch)
 }
 
 // Loads both lists, and says whether the header and they are right.
@@ -89,12 +72,7 @@ pub fn load_lists(
     requires n_in_bounds { n ≤ length scratch.old }
     ensures { ListsLoaded s image.now h n result fats.new difats.new }
 {
-    if !counts_right(h, fats.len(), difats.len()) {
-        return false;
-    }
-    if !load_difats(image, s, n, h.difat, difats, scratch) {
-        return false;
-    }
-    let list = h.list;
-    load_fats(image, s, n, &list, difats, fats, scratch)
+    counts_right(h, fats.len(), difats.len())
+        && load_difats(image, s, n, h.difat, difats, scratch)
+        && load_fats(image, s, n, &h.list, difats, fats, scratch)
 }

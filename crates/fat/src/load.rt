@@ -1,5 +1,5 @@
 // The lists and the FAT out of an image's bytes (MS-CFB 2.3 and 2.5; document 01, refusals 12 and 13).
-ghost use Rattle.std.specs.Prelude.{◌≡◌, ◌+◌, ◌-◌, ◌≤◌, min, length};
+ghost use Rattle.std.specs.Prelude.{◌≡◌, ◌+◌, ◌-◌, length};
 ghost use Rattle.sectors.specs.Sectors.{Holds};
 ghost use Rattle.fat.specs.Lists.{ends as ends_of, place_at, rest_free, fat_of, tail_free};
 ghost use Rattle.fat.specs.Loaded.{ChainListed, Covers, Places, PlacesListed};
@@ -8,10 +8,7 @@ ghost use Rattle.fat.specs.Loaded.{ChainListed, Covers, Places, PlacesListed};
 pub fn ends(v: u32) -> bool
     ensures { result ≡ ends_of v }
 {
-    if v == consts::END_OF_CHAIN {
-        return true;
-    }
-    v == consts::FREE_SECTOR
+    v == consts::END_OF_CHAIN || v == consts::FREE_SECTOR
 }
 
 // Lists the DIFAT chain from its first sector, as many sectors as the list has room for. Whether
@@ -22,15 +19,13 @@ pub fn list_difats(image: &[u8], s: usize, n: usize, first: u32, difats: &mut [u
 {
     let last = s / 4 - 1;
     let mut id = first;
-    let mut j = 0;
-    while j < difats.len() {
+    for place in difats.iter_mut() {
         let at = id as usize;
         if n <= at {
             return false;
         }
-        difats[j] = id;
+        *place = id;
         id = sectors::entry_at(image, s, at, last);
-        j += 1;
     }
     ends(id)
 }
@@ -43,17 +38,9 @@ pub fn place_at(image: &[u8], s: usize, n: usize, list: &[u32], difats: &[u32], 
     if p < 109 {
         return list[p];
     }
+    let past = p - 109;
     let each = s / 4 - 1;
-    let q = (p - 109) / each;
-    let id = difats[q] as usize;
-    sectors::entry_at(image, s, id, (p - 109) % each)
-}
-
-// How many of k places lie past the header.
-pub fn past_header(k: usize) -> usize
-    ensures { result ≡ k - 109 }
-{
-    if k < 109 { 0 } else { k - 109 }
+    sectors::entry_at(image, s, difats[past / each] as usize, past % each)
 }
 
 // Lists the sectors of the FAT, as many places of the DIFAT as the list has room for. Whether each
@@ -69,14 +56,12 @@ pub fn list_fats(
     requires { Places s n (length image.now) list.now difats.now (length fats.old) }
     ensures { PlacesListed s image.now n list.now difats.now (length fats.old) result fats.new }
 {
-    let mut p = 0;
-    while p < fats.len() {
+    for (p, place) in fats.iter_mut().enumerate() {
         let id = place_at(image, s, n, list, difats, p);
         if n <= id as usize {
             return false;
         }
-        fats[p] = id;
-        p += 1;
+        *place = id;
     }
     true
 }
@@ -86,24 +71,10 @@ pub fn rest_free(image: &[u8], s: usize, n: usize, list: &[u32], difats: &[u32],
     requires { Places s n (length image.now) list.now difats.now k }
     ensures { result ≡ rest_free s image.now list.now difats.now k (length difats.now) }
 {
-    let over = past_header(k);
-    let count = difats.len() * (s / 4 - 1) - over;
-    let mut free = true;
-    let mut j = 0;
-    while j < count {
-        if place_at(image, s, n, list, difats, 109 + over + j) != consts::FREE_SECTOR {
-            free = false;
-        }
-        j += 1;
-    }
-    free
-}
-
-// The smaller of two numbers.
-pub fn lesser(a: usize, b: usize) -> usize
-    ensures { (result ≤ a) × (result ≤ b) × (result ≡ min a b) }
-{
-    if a < b { a } else { b }
+    let end = 109 + difats.len() * (s / 4 - 1);
+    (k.max(109)..end).fold(true, |free, p| {
+        free & (place_at(image, s, n, list, difats, p) == consts::FREE_SECTOR)
+    })
 }
 
 // Loads the FAT from its sectors, a sector at a time.
@@ -112,13 +83,11 @@ pub fn load_fat(image: &[u8], s: usize, n: usize, fats: &[u32], fat: &mut [u32])
     ensures { fat.new ≡ fat_of s image.now fats.now (length fat.old) }
 {
     let each = s / 4;
-    let mut p = 0;
-    while p < fats.len() {
+    for (p, id) in fats.iter().enumerate() {
+        // kept: the bounds of a run, as no proof knows what is in the runs that chunks_mut lends.
         let a = p * each;
-        let b = lesser(a + each, fat.len());
-        let id = fats[p] as usize;
-        sectors::load_at(image, s, id, &mut fat[a..b]);
-        p += 1;
+        let b = (a + each).min(fat.len());
+        sectors::load_at(image, s, *id as usize, &mut fat[a..b]);
     }
 }
 
@@ -127,12 +96,10 @@ pub fn tail_free(image: &[u8], s: usize, n: usize, fats: &[u32]) -> bool
     requires { Covers s n (length image.now) fats.now n }
     ensures { result ≡ tail_free s image.now fats.now n }
 {
-    let k = fats.len();
-    if k == 0 {
+    let Some((id, before)) = fats.split_last() else {
         return true;
-    }
+    };
     let each = s / 4;
-    let done = (k - 1) * each;
-    let id = fats[k - 1] as usize;
-    sectors::free_at(image, s, id, n - done, done + each - n)
+    let done = before.len() * each;
+    sectors::free_at(image, s, *id as usize, n - done, done + each - n)
 }

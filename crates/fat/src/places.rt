@@ -3,13 +3,6 @@ ghost use Rattle.std.specs.Prelude.{◌≡◌, ℕ, ◌≤◌, ◌<◌, true, eq
 ghost use Rattle.lists.specs.Lists.{every};
 ghost use Rattle.fat.specs.Lists.{all_below, different as none_twice};
 
-// A sector's number as an index.
-pub fn index(x: u32) -> usize
-    ensures { result ≡ x }
-{
-    x as usize
-}
-
 // Stores at each number of the list a place where the list has that number.
 pub fn put_places(list: &[u32], scratch: &mut [u32])
     requires list_value { all_below (length scratch.old) list.now ≡ true }
@@ -18,11 +11,8 @@ pub fn put_places(list: &[u32], scratch: &mut [u32])
         → (get_or scratch.new (get_or list.now j 0) 0 < length list.now)
         × (get_or list.now (get_or scratch.new (get_or list.now j 0) 0) 0 ≡ get_or list.now j 0) }
 {
-    let mut j = 0;
-    while j < list.len() {
-        let i = index(list[j]);
-        scratch[i] = j as u32;
-        j += 1;
+    for (j, id) in list.iter().enumerate() {
+        scratch[*id as usize] = j as u32;
     }
 }
 
@@ -31,14 +21,12 @@ pub fn places_stand(list: &[u32], scratch: &[u32]) -> bool
     requires { all_below (length scratch.now) list.now ≡ true }
     ensures { result ≡ every (length list.now) (λ j. eqb (get_or scratch.now (get_or list.now j 0) 0) j) }
 {
+    // kept: a flag, as a fold over the places and their numbers is slower (`different` by a quarter).
     let mut stand = true;
-    let mut j = 0;
-    while j < list.len() {
-        let i = index(list[j]);
-        if index(scratch[i]) != j {
+    for (j, id) in list.iter().enumerate() {
+        if scratch[*id as usize] as usize != j {
             stand = false;
         }
-        j += 1;
     }
     stand
 }

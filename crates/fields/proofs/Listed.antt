@@ -1,34 +1,30 @@
 -- The laws of the header's list: of its bytes, and of its ids. Assumes nothing.
 use Prim.Native.Nat.{ℕ, suc, ◌+◌, ◌-◌, ◌*◌, ◌≤◌, ◌<◌}
 use mathlib.Core.Path.{◌≡◌, refl, sym, ◌∙◌, ap}
-use mathlib.Core.Bool.{Bool, true, false}
+use mathlib.Core.Bool.{Bool, true, false, cond, ◌&&◌}
 use mathlib.Core.List.{List, [], ◌∷◌, ◌++◌, append_assoc}
 use native.Mathlib.Omega.{arith}
 use native.Mathlib.Numerals.{add-one}
-use borrow.Author.Tests.{le-leb, lt-leb, eq-eqb, ne_eqb}
-use lib.Dec.{leb}
-use lib.ListN.{length, get_or, take, drop, length-append, length-drop, drop_of_length-le}
-use lib.Seq.{drop-cons, take-suc, take_all, length-take-le}
+use Rattle.std.specs.List.{prefix_len, fold}
+use lib.Dec.{leb, eqb}
+use lib.ListN.{length, get_or, take, drop, length-append, length-drop}
+use lib.Seq.{take-suc, take_all, length-take-le}
 use Rattle.lists.specs.Lists.{choose, both, splice}
-use Rattle.lists.proofs.Cases.{both_false_right}
 use Rattle.lists.proofs.Splice.{splice_nil, splice_append}
 use Rattle.words.specs.Words.{digits}
 use Rattle.words.proofs.Laws.{length_digits}
 use Rattle.consts.specs.Consts.{max_regular, free_sector}
 use Rattle.fields.specs.Fields.{ids_in, all_free, ids_then_free, list_bytes}
 
--- the ids at the front, one by one
-pub ids_more : (xs : List ℕ) (i : ℕ) → i < length xs → get_or xs i 0 ≤ max_regular → ids_in (drop i xs) ≡ suc (ids_in (drop (i + 1) xs))
+-- the ids at the front are the front that a test holds of
+pub ids_prefix : (xs : List ℕ) → prefix_len (λ x. leb x max_regular) xs ≡ ids_in xs
 unfolding ids_in
-ids_more xs i h low = rw (add-one i, drop-cons xs i 0 h, le-leb (get_or xs i 0) max_regular low)
-
-pub ids_stop : (xs : List ℕ) (i : ℕ) → i < length xs → max_regular < get_or xs i 0 → ids_in (drop i xs) ≡ 0
-unfolding ids_in
-ids_stop xs i h high = rw (drop-cons xs i 0 h, lt-leb (get_or xs i 0) max_regular high)
-
-pub ids_end : (xs : List ℕ) (i : ℕ) → length xs ≤ i → ids_in (drop i xs) ≡ 0
-unfolding ids_in
-ids_end xs i h = rw (drop_of_length-le xs h)
+ids_prefix [] = refl
+ids_prefix (x ∷ xs) = at (leb x max_regular) (ids_prefix xs)
+  where
+    at : (t : Bool) → prefix_len (λ x. leb x max_regular) xs ≡ ids_in xs → cond t (1 + prefix_len (λ x. leb x max_regular) xs) 0 ≡ choose t (suc (ids_in xs)) 0
+    at true e = omega arith
+    at false e = refl
 
 pub ids_within : (xs : List ℕ) → ids_in xs ≤ length xs
 unfolding ids_in
@@ -39,31 +35,13 @@ ids_within (x ∷ xs) = at (leb x max_regular) (ids_within xs)
     at true h = omega arith
     at false h = omega arith
 
--- FREE entries, one by one
-pub free_more : (xs : List ℕ) (i : ℕ) → i < length xs → get_or xs i 0 ≡ free_sector → all_free (drop i xs) ≡ all_free (drop (i + 1) xs)
+-- FREE entries by a flag, from the first on
+pub free_from : (b : Bool) (xs : List ℕ) → fold (λ b x. b && eqb x free_sector) b xs ≡ both b (all_free xs)
 unfolding all_free
-free_more xs i h e = rw (add-one i, drop-cons xs i 0 h, eq-eqb (get_or xs i 0) free_sector e)
-
-pub free_stop : (xs : List ℕ) (i : ℕ) → i < length xs → (get_or xs i 0 ≡ free_sector → ⊥) → all_free (drop i xs) ≡ false
-unfolding all_free
-free_stop xs i h n = rw (drop-cons xs i 0 h, ne_eqb (get_or xs i 0) free_sector n)
-
-pub free_end : (xs : List ℕ) (i : ℕ) → length xs ≤ i → all_free (drop i xs) ≡ true
-unfolding all_free
-free_end xs i h = rw (drop_of_length-le xs h)
-
--- a turn of the loop that looks for FREE: what the flag and the rest say is the whole
-pub flag_free : (xs : List ℕ) (i : ℕ) (flag next : Bool) → i < length xs → all_free xs ≡ both flag (all_free (drop i xs)) → get_or xs i 0 ≡ free_sector → next ≡ flag
-    → all_free xs ≡ both next (all_free (drop (i + 1) xs))
-flag_free xs i flag next h e f stays = e ∙ rw (free_more xs i h f, stays)
-
-pub flag_other : (xs : List ℕ) (i : ℕ) (flag next : Bool) → i < length xs → all_free xs ≡ both flag (all_free (drop i xs)) → (get_or xs i 0 ≡ free_sector → ⊥) → next ≡ false
-    → all_free xs ≡ both next (all_free (drop (i + 1) xs))
-flag_other xs i flag next h e n stops = e ∙ both_false_right flag _ (free_stop xs i h n) ∙ rw stops
-
-pub flag_end : (xs : List ℕ) (i : ℕ) (flag : Bool) → length xs ≤ i → both flag (all_free (drop i xs)) ≡ flag
-flag_end xs i true h = free_end xs i h
-flag_end xs i false h = refl
+free_from true [] = refl
+free_from true (x ∷ xs) = free_from (eqb x free_sector) xs
+free_from false [] = refl
+free_from false (x ∷ xs) = free_from false xs
 
 -- the bytes of a list, entry by entry
 pub length_list_bytes : (xs : List ℕ) → length (list_bytes xs) ≡ 4 * length xs
@@ -92,7 +70,7 @@ pub rest_free_lem : (xs : List ℕ) (n : ℕ) → n ≡ ids_in xs → all_free (
 unfolding ids_then_free
 rest_free_lem xs n e = rw (take_all (length xs - n) (drop n xs) (simp length-drop (omega arith)), e)
 
--- the loop that stores the entries: none yet, one more, all of them
+-- the loop that stores the entries: none yet, and one more
 pub entries_none : (b : List ℕ) (o : ℕ) (xs : List ℕ) → b ≡ splice b o (list_bytes (take 0 xs))
 unfolding list_bytes
 entries_none b o xs = sym (splice_nil b o)
@@ -101,6 +79,3 @@ pub entries_more : (b now next : List ℕ) (o at : ℕ) (xs : List ℕ) (i : ℕ
     → now ≡ splice b o (list_bytes (take i xs)) → next ≡ splice now (at + 4 * i) (digits 4 (get_or xs i 0)) → next ≡ splice b o (list_bytes (take (i + 1) xs))
 entries_more b now next o at xs i h fits e f g =
     g ∙ ap (λ (k : ℕ). splice now (k + 4 * i) (digits 4 (get_or xs i 0))) e ∙ ap (λ (l : List ℕ). splice l (o + 4 * i) (digits 4 (get_or xs i 0))) f ∙ entry_stored b o xs i h fits
-
-pub entries_all : (b now : List ℕ) (o : ℕ) (xs : List ℕ) (i : ℕ) → length xs ≤ i → now ≡ splice b o (list_bytes (take i xs)) → now ≡ splice b o (list_bytes xs)
-entries_all b now o xs i h e = e ∙ ap (λ (l : List ℕ). splice b o (list_bytes l)) (take_all i xs h)

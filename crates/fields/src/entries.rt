@@ -11,15 +11,8 @@ pub fn read_list(b: &[u8]) -> [u32; 109]
     requires { 512 ≤ length b.now }
     ensures { result ≡ list_of b.now }
 {
-    let f = row(ENTRIES);
-    let at = f.at;
-    let mut list = [0u32; 109];
-    let mut i = 0;
-    while i < 109 {
-        list[i] = words::read32(b, at + 4 * i);
-        i += 1;
-    }
-    list
+    let at = row(ENTRIES).at;
+    std::array::from_fn(|i| words::read::<4>(b, at + 4 * i))
 }
 
 // Stores the 109 entries.
@@ -28,12 +21,9 @@ pub fn put_list(buf: &mut [u8], list: &[u32])
     requires list_len { length list.now ≡ 109 }
     ensures { buf.new ≡ splice buf.old (offset_of entries_at) (list_bytes list.now) }
 {
-    let f = row(ENTRIES);
-    let at = f.at;
-    let mut i = 0;
-    while i < 109 {
-        words::put32(buf, at + 4 * i, list[i]);
-        i += 1;
+    let at = row(ENTRIES).at;
+    for (i, entry) in list.iter().enumerate() {
+        words::put::<4>(buf, at + 4 * i, *entry);
     }
 }
 
@@ -43,38 +33,24 @@ pub fn put_place(buf: &mut [u8], p: usize, v: u32)
     requires p_bound { p < 109 }
     ensures { buf.new ≡ splice buf.old (offset_of entries_at + 4 * p) (digits 4 v) }
 {
-    let first = row(ENTRIES);
-    let at = first.at;
-    words::put32(buf, at + 4 * p, v);
+    words::put::<4>(buf, row(ENTRIES).at + 4 * p, v);
 }
 
 // How many sector numbers the list begins with.
 pub fn leading_ids(list: &[u32]) -> usize
     ensures { result ≡ ids_in list.now }
 {
-    let mut i = 0;
-    while i < list.len() {
-        if consts::MAX_REGULAR_SECTOR < list[i] {
-            return i;
-        }
-        i += 1;
-    }
-    i
+    list.iter()
+        .take_while(|id| **id <= consts::MAX_REGULAR_SECTOR)
+        .count()
 }
 
 // Whether every entry is FREE.
 pub fn all_free(list: &[u32]) -> bool
     ensures { result ≡ all_free list.now }
 {
-    let mut free = true;
-    let mut i = 0;
-    while i < list.len() {
-        if list[i] != consts::FREE_SECTOR {
-            free = false;
-        }
-        i += 1;
-    }
-    free
+    list.iter()
+        .fold(true, |free, entry| free & (*entry == consts::FREE_SECTOR))
 }
 
 // Whether the list is sector numbers and then FREE to its end: what follows the first FREE is looked at too.
@@ -89,8 +65,5 @@ pub fn ids_then_free(list: &[u32]) -> bool
 pub fn unreadable(list: &[u32], difat: u32) -> bool
     ensures { result ≡ unreadable_of list.now difat }
 {
-    if !ids_then_free(list) {
-        return true;
-    }
-    difat == consts::FREE_SECTOR
+    !ids_then_free(list) || difat == consts::FREE_SECTOR
 }

@@ -89,13 +89,11 @@ pub fn number_at(b: &[u8], place: usize) -> u32
     requires place_value { holds_number place ≡ true }
     ensures { result ≡ number_at b.now place }
 {
-    let f = row(place);
-    let at = f.at;
-    let w = f.width;
-    if w == 2 {
-        words::read16(b, at)
+    let Field { at, width } = row(place);
+    if width == 2 {
+        words::read::<2>(b, at)
     } else {
-        words::read32(b, at)
+        words::read::<4>(b, at)
     }
 }
 
@@ -105,13 +103,11 @@ pub fn put_number(buf: &mut [u8], place: usize, v: u32)
     requires place_value { holds_number place ≡ true }
     ensures { buf.new ≡ splice buf.old (offset_of place) (digits (width_of place) v) }
 {
-    let f = row(place);
-    let at = f.at;
-    let w = f.width;
-    if w == 2 {
-        words::put16(buf, at, v);
+    let Field { at, width } = row(place);
+    if width == 2 {
+        words::put::<2>(buf, at, v);
     } else {
-        words::put32(buf, at, v);
+        words::put::<4>(buf, at, v);
     }
 }
 
@@ -121,10 +117,8 @@ pub fn put_zeros(buf: &mut [u8], place: usize)
     requires place_bound { place < 18 }
     ensures { buf.new ≡ splice buf.old (offset_of place) (replicate (width_of place) 0) }
 {
-    let f = row(place);
-    let at = f.at;
-    let end = at + f.width;
-    words::fill(&mut buf[at..end], 0);
+    let Field { at, width } = row(place);
+    buf[at..at + width].fill(0);
 }
 
 // Whether the first eight bytes are the signature.
@@ -132,10 +126,7 @@ pub fn signed(b: &[u8]) -> bool
     requires { 512 ≤ length b.now }
     ensures { result ≡ same_list (part b.now 0 8) signature }
 {
-    let f = row(SIGNATURE);
-    let at = f.at;
-    let end = at + f.width;
-    words::same(&b[at..end], &consts::MAGIC_NUMBER)
+    b[row(SIGNATURE).at..].starts_with(&consts::MAGIC_NUMBER)
 }
 
 // Stores the signature, whole.
@@ -143,8 +134,6 @@ pub fn put_signature(buf: &mut [u8])
     requires { 512 ≤ length buf.old }
     ensures { buf.new ≡ splice buf.old (offset_of signature_at) signature }
 {
-    let f = row(SIGNATURE);
-    let at = f.at;
-    let end = at + f.width;
-    words::copy(&consts::MAGIC_NUMBER, &mut buf[at..end]);
+    let Field { at, width } = row(SIGNATURE);
+    buf[at..at + width].copy_from_slice(&consts::MAGIC_NUMBER);
 }

@@ -1,17 +1,23 @@
 -- The laws of sectors freed, one and a run of them. Assumes nothing.
-use Prim.Native.Nat.{ℕ, zero, suc, ◌+◌, ◌-◌, ◌≤◌, ◌<◌}
+use Prim.Native.Nat.{ℕ, zero, suc, ◌+◌, ◌-◌, ◌*◌, ◌/◌, ◌≤◌, ◌<◌}
 use mathlib.Core.Path.{◌≡◌, refl, ◌∙◌, sym, ap}
 use mathlib.Core.List.{List}
 use mathlib.Core.Logic.{⊎_elim, ◌≢◌}
 use native.Mathlib.Omega.{arith}
-use lib.ListN.{length, get_or, set, length-set}
-use lib.Seq.{get_or-set_same, get_or-set_other}
+use lib.ListN.{length, get_or, set, take, drop, length-set, length-drop}
+use lib.Seq.{get_or-set_same, get_or-set_other, get_or-take, get_or-drop, length-take-le}
 use Rattle.lists.proofs.Cases.{same_or}
 use Rattle.consts.specs.Consts.{free_sector}
+use Rattle.sectors.specs.Sectors.{start_of, per_sector}
+use Rattle.fat.specs.Lists.{most}
 use Rattle.disk.specs.Disk.{set_fat}
+use Rattle.disk.specs.Held.{disk_in, SameHand}
+use Rattle.disk.specs.declared.disk.Hand as lent
 use Rattle.hand.specs.Hand.{Hand, Chain, point, free_sector_of, free_run}
 use Rattle.hand.specs.Fits.{FitsHand, FitsFrees, FitsChain}
-use Rattle.hand.proofs.Pointing.{hand_of, HandLong, long_none, long_then, point_fits, point_long}
+use Rattle.hand.specs.Held.{hand_in, HandBecomes}
+use Rattle.hand.proofs.Holding.{same_then}
+use Rattle.hand.proofs.Pointing.{HandLong, long_none, long_then, point_inside, point_fits, point_long, point_counts}
 
 -- freeing leaves what the code asks for
 pub free_fits : (S R : ℕ) (h : Hand) (i : ℕ) → FitsHand S R h → i < h.disk.sectors → h.free < h.disk.sectors → FitsHand S R (free_sector_of S h i)
@@ -108,91 +114,78 @@ chain_freed S R i m c f b =
       few = rw (free_run_sectors, free_run_count) (omega (arith, b, f.few));
     }
 
+-- a run of one more frees its last
+pub free_last : (S : ℕ) (h : Hand) (ids : List ℕ) (i c : ℕ) → free_run S h ids i (suc c) ≡ free_sector_of S (free_run S h ids i c) (get_or ids (i + c) 0)
+free_last S h ids i zero =
+    let e : i + 0 ≡ i = omega arith in
+    rw e (free_more S h ids i 0 ∙ free_none S (free_sector_of S h (get_or ids i 0)) ids (suc i) ∙ ap (λ (k : Hand). free_sector_of S k (get_or ids i 0)) (sym (free_none S h ids i)))
+free_last S h ids i (suc c) =
+    let e : suc i + c ≡ i + suc c = omega arith in
+    free_more S h ids i (suc c)
+    ∙ free_last S (free_sector_of S h (get_or ids i 0)) ids (suc i) c
+    ∙ ap (λ (k : ℕ). free_sector_of S (free_run S (free_sector_of S h (get_or ids i 0)) ids (suc i) c) (get_or ids k 0)) e
+    ∙ ap (λ (k : Hand). free_sector_of S k (get_or ids (i + suc c) 0)) (sym (free_more S h ids i c))
+
+-- a run of some of those that can be freed
+frees_some : (S R i k c : ℕ) (ids : List ℕ) (h : Hand) → FitsFrees S R i c ids h → k ≤ c → FitsFrees S R i k ids h
+frees_some S R i k c ids h f b =
+    record { fits = f.fits; listed = omega (arith, f.listed, b); within = λ j l. f.within j (omega (arith, l, b)); room = omega (arith, f.room, b) }
+
 -- a sector whose entry was made FREE, and which joined the free list
 freed_of : (S : ℕ) (h pointed : Hand) (i : ℕ) → pointed ≡ point S h i free_sector
-    → record { disk = pointed.disk; frees = set h.frees h.free i; free = suc h.free; marks = pointed.marks } ≡ free_sector_of S h i
-unfolding free_sector_of
-freed_of S h pointed i e = ap (λ (g : Hand). record { disk = g.disk; frees = set h.frees h.free i; free = suc h.free; marks = g.marks }) e
+    → record { disk = pointed.disk; frees = set pointed.frees pointed.free i; free = pointed.free + 1; marks = pointed.marks } ≡ free_sector_of S h i
+unfolding free_sector_of point
+freed_of S h pointed i e =
+    let more : pointed.free + 1 ≡ suc pointed.free = omega arith in
+    rw more (ap (λ (g : Hand). record { disk = g.disk; frees = set g.frees g.free i; free = suc g.free; marks = g.marks }) e)
 
--- the invariant of the loop that frees: what is left from here is the whole
-pub record Freeing (S R n free : ℕ) (image₀ fat₀ fats frees₀ marks₀ ids : List ℕ) (from count : ℕ) (image fat frees marks : List ℕ) (j : ℕ) : Type 0 where
-  pub spare : List ℕ
-  pub fits : FitsFrees S R (from + j) (count - j) ids (hand_of n image fat fats spare frees (free + j) marks)
-  pub turns : j ≤ count
-  pub whole : (difats : List ℕ)
-      → free_run S (hand_of n image₀ fat₀ fats difats frees₀ free marks₀) ids from count
-      ≡ free_run S (hand_of n image fat fats difats frees (free + j) marks) ids (from + j) (count - j)
-  pub image_long : length image ≡ length image₀
-  pub fat_long : length fat ≡ length fat₀
-  pub frees_long : length frees ≡ length frees₀
-  pub marks_long : length marks ≡ length marks₀
+-- the sectors of a run
+abbrev run_of : List ℕ → ℕ → ℕ → List ℕ
+run_of ids i c = take (i + c - i) (drop i ids)
 
-pub freeing_begun : (S R n free : ℕ) (image fat fats frees marks ids : List ℕ) (from count : ℕ)
-    → (difats : List ℕ) × FitsFrees S R from count ids (hand_of n image fat fats difats frees free marks)
-    → Freeing S R n free image fat fats frees marks ids from count image fat frees marks 0
-freeing_begun S R n free image fat fats frees marks ids from count p =
-    let a : free + 0 ≡ free = omega arith in
-    let b : from + 0 ≡ from = omega arith in
-    let d : count - 0 ≡ count = omega arith in
-    record {
-      spare = p.0;
-      fits = rw (a, b, d) p.1;
-      turns = omega arith;
-      whole = λ difats. rw (a, b, d);
-      image_long = refl;
-      fat_long = refl;
-      frees_long = refl;
-      marks_long = refl;
-    }
+-- a turn of the loop that frees, where k are freed
+module _ {a b : lent.Hand} {R i c k : ℕ} {ids : List ℕ} (f : FitsFrees a.len R i c ids (hand_in a)) (m : HandBecomes a b (free_run a.len (hand_in a) ids i k))
+    (l : k < length (run_of ids i c)) where
+  turn_some : k < c
+  turn_some = omega (arith, l, length-take-le (i + c - i) (drop i ids) (omega (arith, length-drop i ids, f.listed)))
 
--- a turn of it
-module _ {S R n free : ℕ} {image₀ fat₀ fats frees₀ marks₀ ids : List ℕ} {from count : ℕ} {image fat frees marks : List ℕ} {j : ℕ}
-    (g : Freeing S R n free image₀ fat₀ fats frees₀ marks₀ ids from count image fat frees marks j) where
-  pub freeing_id : j < count → get_or ids (from + j) 0 < n
-  freeing_id h = g.fits.within (from + j) (omega (arith, h))
+  turn_id : get_or (run_of ids i c) k 0 ≡ get_or ids (i + k) 0
+  turn_id = get_or-take (i + c - i) (drop i ids) k 0 (omega (arith, turn_some)) ∙ get_or-drop i ids k 0
 
-  pub freeing_listed : j < count → from + j < length ids
-  freeing_listed h = omega (arith, h, g.fits.listed)
+  turn_fits : FitsHand b.len R (hand_in b)
+  turn_fits = rw (m.same.len, m.hand) (free_run_fits a.len R i k ids (hand_in a) (frees_some a.len R i k c ids (hand_in a) f (omega (arith, turn_some))))
 
-  pub freeing_place : j < count → free + j < length frees
-  freeing_place h = omega (arith, h, g.fits.room, g.fits.fits.disk.inside, g.fits.fits.frees_long)
+  turn_sectors : b.sectors ≡ a.sectors
+  turn_sectors = ap (λ (h : Hand). h.disk.sectors) m.hand ∙ free_run_sectors a.len (hand_in a) ids i k
 
-  pub freeing_on : j < count → (image' fat' marks' : List ℕ)
-      → ((difats frees : List ℕ) (free : ℕ)
-      → hand_of n image' fat' fats difats frees free marks' ≡ point S (hand_of n image fat fats difats frees free marks) (get_or ids (from + j) 0) free_sector)
-      → length image' ≡ length image → length fat' ≡ length fat → length marks' ≡ length marks
-      → Freeing S R n free image₀ fat₀ fats frees₀ marks₀ ids from count image' fat' (set frees (free + j) (get_or ids (from + j) 0)) marks' (j + 1)
-  freeing_on h image' fat' marks' p li lf lm =
-      let m : count - j ≡ suc (count - (j + 1)) = omega (arith, h) in
-      let a : from + (j + 1) ≡ suc (from + j) = omega arith in
-      let b : free + (j + 1) ≡ suc (free + j) = omega arith in
-      let one : (difats : List ℕ)
-      → hand_of n image' fat' fats difats (set frees (free + j) (get_or ids (from + j) 0)) (suc (free + j)) marks'
-      ≡ free_sector_of S (hand_of n image fat fats difats frees (free + j) marks) (get_or ids (from + j) 0)
-      = λ difats. freed_of S (hand_of n image fat fats difats frees (free + j) marks) (hand_of n image' fat' fats difats frees (free + j) marks') (get_or ids (from + j) 0) (p difats frees (free + j)) in
-      record {
-        spare = g.spare;
-        fits = rw (a, b, one g.spare) (frees_more S R (from + j) (count - (j + 1)) ids (hand_of n image fat fats g.spare frees (free + j) marks) (rw m at g.fits));
-        turns = omega (arith, h);
-        whole = λ difats.
-            rw (a, b)
-            (g.whole difats
-            ∙ ap (λ (k : ℕ). free_run S (hand_of n image fat fats difats frees (free + j) marks) ids (from + j) k) m
-            ∙ free_more S (hand_of n image fat fats difats frees (free + j) marks) ids (from + j) (count - (j + 1))
-            ∙ ap (λ (k : Hand). free_run S k ids (suc (from + j)) (count - (j + 1))) (sym (one difats)));
-        image_long = li ∙ g.image_long;
-        fat_long = lf ∙ g.fat_long;
-        frees_long = length-set frees (free + j) (get_or ids (from + j) 0) ∙ g.frees_long;
-        marks_long = lm ∙ g.marks_long;
-      }
+  -- the entry of the next one can be set
+  pub turn_point : ((b.len ≡ 4 * per_sector b.len) × (1 ≤ per_sector b.len) × (b.sectors ≤ length b.tables.now.marks.now))
+      × (((get_or (run_of ids i c) k 0 < length b.tables.now.fat.now) × (get_or (run_of ids i c) k 0 / per_sector b.len < length b.tables.now.fats.now))
+      × (start_of b.len (get_or b.tables.now.fats.now (get_or (run_of ids i c) k 0 / per_sector b.len) 0) + b.len ≤ length b.image.now))
+  turn_point = point_inside b.len R (hand_in b) (get_or (run_of ids i c) k 0) turn_fits (rw turn_id (omega (arith, f.within (i + k) (omega (arith, turn_some)), turn_sectors)))
 
-  -- and its end
-  pub freeing_over : count ≤ j → (difats : List ℕ)
-      → hand_of n image fat fats difats frees (free + count) marks ≡ free_run S (hand_of n image₀ fat₀ fats difats frees₀ free marks₀) ids from count
-  freeing_over h difats =
-      let e : j ≡ count = omega (arith, h, g.turns) in
-      let z : count - j ≡ 0 = omega (arith, h) in
-      ap (λ (k : ℕ). hand_of n image fat fats difats frees (free + k) marks) (sym e)
-      ∙ sym (free_none S (hand_of n image fat fats difats frees (free + j) marks) ids (from + j))
-      ∙ ap (λ (k : ℕ). free_run S (hand_of n image fat fats difats frees (free + j) marks) ids (from + j) k) (sym z)
-      ∙ sym (g.whole difats)
+  -- and then the free list has room for it
+  module _ {p : lent.Hand} (q : HandBecomes b p (point b.len (hand_in b) (get_or (run_of ids i c) k 0) free_sector)) where
+    turn_count : p.free ≡ a.free + k
+    turn_count =
+        ap (λ (h : Hand). h.free) q.hand
+        ∙ (point_counts b.len (hand_in b) (get_or (run_of ids i c) k 0) free_sector).1
+        ∙ ap (λ (h : Hand). h.free) m.hand
+        ∙ free_run_count a.len (hand_in a) ids i k
+
+    pub turn_place : p.free < length p.tables.now.frees.now
+    turn_place = omega (arith, turn_count, f.room, f.fits.disk.inside, f.fits.frees_long, turn_some, m.same.lent.frees_long, q.same.lent.frees_long)
+
+    pub turn_small : p.free < most
+    turn_small = omega (arith, turn_count, f.room, f.fits.disk.inside, f.fits.disk.few, turn_some)
+
+    pub turn_on : {d : lent.Hand} → SameHand p d
+        → hand_in d ≡ record { disk = disk_in p; frees = set p.tables.now.frees.now p.free (get_or (run_of ids i c) k 0); free = p.free + 1; marks = p.tables.now.marks.now }
+        → HandBecomes a d (free_run a.len (hand_in a) ids i (k + 1))
+    turn_on s e =
+        let one : k + 1 ≡ suc k = omega arith in
+        record {
+          same = same_then m.same (same_then q.same s);
+          hand = rw (one, free_last, sym m.hand, sym m.same.len, sym turn_id)
+              (e ∙ freed_of b.len (hand_in b) (hand_in p) (get_or (run_of ids i c) k 0) q.hand);
+        }

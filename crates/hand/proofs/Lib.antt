@@ -1,4 +1,5 @@
 pub mod Freeing
+pub mod Holding
 pub mod Linking
 pub mod Pointing
 pub mod Taking

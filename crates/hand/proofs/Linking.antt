@@ -1,20 +1,18 @@
 -- The laws of a sector linked behind a chain's last one, and of a chain with one sector more. Assumes nothing.
-use Prim.Native.Nat.{ℕ, suc, ◌+◌, ◌-◌, ◌*◌, ◌/◌, ◌≤◌, ◌<◌}
+use Prim.Native.Nat.{ℕ, suc, ◌+◌, ◌-◌, ◌≤◌, ◌<◌}
 use mathlib.Core.Path.{◌≡◌, refl, ◌∙◌, sym, ap}
 use mathlib.Core.List.{List}
 use mathlib.Core.Logic.{⊎_elim, ◌≢◌}
 use native.Mathlib.Omega.{arith}
 use borrow.Author.Tests.{eq-eqb, ne_eqb}
-use lib.ListN.{length, get_or, set, length-set}
-use lib.Seq.{get_or-set_same, get_or-set_other}
+use lib.ListN.{length, get_or, take, length-set}
+use lib.Seq.{get_or-set_same, get_or-set_other, get_or-take, length-take-le}
 use Rattle.lists.proofs.Cases.{same_or}
-use Rattle.sectors.specs.Sectors.{start_of, per_sector}
-use Rattle.fat.specs.Lists.{most}
 use Rattle.disk.specs.Disk.{one_more, count_after}
 use Rattle.disk.proofs.Fitting.{one_more_grows, count_none, count_more, count_grows}
 use Rattle.hand.specs.Hand.{Hand, Chain, point, taken_id, take_sector, linked, extend_one}
 use Rattle.hand.specs.Fits.{FitsHand, FitsStock, FitsLast, FitsMore}
-use Rattle.hand.proofs.Pointing.{hand_of, HandLong, long_none, long_then, point_fits, point_inside, point_long, point_counts}
+use Rattle.hand.proofs.Pointing.{HandLong, long_none, long_then, point_fits, point_inside, point_long, point_counts}
 use Rattle.hand.proofs.Taking.{stock_of, take_sectors_new, take_sectors_same, take_sectors_grow, take_free, taken_below, take_fits, take_long}
 
 -- a chain of none, and one with a last sector
@@ -26,14 +24,13 @@ pub linked_last : (S : ℕ) (h : Hand) (ids : List ℕ) (count id : ℕ) → cou
 unfolding linked
 linked_last S h ids count id e = rw (ne_eqb count 0 e)
 
--- the same, whatever else is in hand
-pub linked_of : (S n : ℕ) (image fat fats marks ids : List ℕ) (count id : ℕ) (image' fat' marks' : List ℕ) → count ≢ 0
-    → ((difats frees : List ℕ) (free : ℕ)
-    → hand_of n image' fat' fats difats frees free marks' ≡ point S (hand_of n image fat fats difats frees free marks) (get_or ids (count - 1) 0) id)
-    → (difats frees : List ℕ) (free : ℕ)
-    → hand_of n image' fat' fats difats frees free marks' ≡ linked S (hand_of n image fat fats difats frees free marks) ids count id
-linked_of S n image fat fats marks ids count id image' fat' marks' e p difats frees free =
-    p difats frees free ∙ sym (linked_last S (hand_of n image fat fats difats frees free marks) ids count id e)
+-- the last of the first count ids, where there is one
+pub last_linked : (S : ℕ) (h : Hand) (ids : List ℕ) (count id last : ℕ) → count ≤ length ids → 0 < length (take count ids)
+    → last ≡ get_or (take count ids) (length (take count ids) - 1) 0 → point S h last id ≡ linked S h ids count id
+last_linked S h ids count id last l some e =
+    let k : length (take count ids) ≡ count = length-take-le count ids l in
+    let at : last ≡ get_or ids (count - 1) 0 = e ∙ ap (λ (n : ℕ). get_or (take count ids) (n - 1) 0) k ∙ get_or-take count ids (count - 1) 0 (omega (arith, some, k)) in
+    rw at (sym (linked_last S h ids count id (omega (arith, some, k))))
 
 -- the last sector of a chain in hand can be made to point elsewhere
 pub last_fits : (S R : ℕ) (h : Hand) (ids : List ℕ) (count : ℕ) → FitsHand S R h → count ≤ length ids → (0 < count → get_or ids (count - 1) 0 < h.disk.sectors)
@@ -48,14 +45,6 @@ last_fits S R h ids count f l b =
       last_sector = λ e. (point_inside S R h (get_or ids (count - 1) 0) f (b e)).1.0.1;
       last_inside = λ e. (point_inside S R h (get_or ids (count - 1) 0) f (b e)).1.1;
     }
-
-pub last_inside : (S n image fat : ℕ) (fats : List ℕ) (marks : ℕ) (ids : List ℕ) (count : ℕ) → FitsLast S n image fat fats marks ids count → count ≢ 0
-    → ((S ≡ 4 * per_sector S) × (1 ≤ per_sector S) × (n ≤ marks))
-    × (((get_or ids (count - 1) 0 < fat) × (get_or ids (count - 1) 0 / per_sector S < length fats))
-    × (start_of S (get_or fats (get_or ids (count - 1) 0 / per_sector S) 0) + S ≤ image))
-last_inside S n image fat fats marks ids count f e =
-    let some : 0 < count = omega (arith, e) in
-    ((f.entries, f.some, f.marks_long), ((f.last_fat some, f.last_sector some), f.last_inside some))
 
 -- linking leaves what the code asks for, how many there are, and every length
 module _ (S : ℕ) (h : Hand) (ids : List ℕ) (count id : ℕ) where
@@ -84,14 +73,6 @@ module _ (S : ℕ) (h : Hand) (ids : List ℕ) (count id : ℕ) where
 pub record ChainLong (c e : Chain) : Type 0 where
   pub hand : HandLong c.hand e.hand
   pub ids_same : length e.ids ≡ length c.ids
-
--- a chain with one sector more, by its parts
-pub extended_of : (S : ℕ) (h taken after : Hand) (ids : List ℕ) (count id : ℕ) → (id ≡ taken_id S h) × (taken ≡ take_sector S h) → after ≡ linked S taken ids count id
-    → record { hand = after; ids = set ids count id; count = suc count } ≡ extend_one S (record { hand = h; ids = ids; count = count })
-unfolding extend_one
-extended_of S h taken after ids count id t l =
-    ap (λ (k : Hand). record { hand = k; ids = set ids count id; count = suc count }) (l ∙ ap (λ (k : Hand). linked S k ids count id) t.1)
-    ∙ ap (λ (i : ℕ). record { hand = linked S (take_sector S h) ids count i; ids = set ids count i; count = suc count }) t.0
 
 -- how many there are then
 pub one_count : (S : ℕ) (c : Chain) → (extend_one S c).count ≡ suc c.count
@@ -160,9 +141,6 @@ module _ {S R m : ℕ} {c : Chain} (f : FitsMore S R (suc m) c) where
       (λ (e : c.hand.free ≡ 0). omega (arith, e, f.fits.few, f.fits.ids_long, more_room e, one_more_grows S c.hand.disk.sectors))
       (λ (e : c.hand.free ≢ 0). omega (arith, e, f.fits.few, f.fits.ids_long, f.fits.fits.disk.inside))
       (same_or c.hand.free 0)
-
-  pub more_small : c.count ≤ most
-  more_small = omega (arith, f.fits.few, f.fits.fits.disk.inside, f.fits.fits.disk.few)
 
   pub more_last : 0 < c.count → get_or c.ids (c.count - 1) 0 < (take_sector S c.hand).disk.sectors
   more_last e =

@@ -1,86 +1,28 @@
 -- The laws of a sector taken. Assumes nothing.
-use Prim.Native.Nat.{ℕ, suc, ◌+◌, ◌-◌, ◌*◌, ◌/◌, ◌≤◌, ◌<◌}
-use mathlib.Core.Path.{◌≡◌, refl, ap}
+use Prim.Native.Nat.{ℕ, ◌+◌, ◌-◌, ◌/◌, ◌≤◌, ◌<◌}
+use mathlib.Core.Path.{◌≡◌, refl}
 use mathlib.Core.List.{List}
 use mathlib.Core.Logic.{⊎_elim, ◌≢◌}
 use native.Mathlib.Omega.{arith}
 use borrow.Author.Tests.{eq-eqb, ne_eqb}
 use lib.ListN.{length, get_or, set, length-set}
 use lib.Seq.{get_or-set_other}
-use Rattle.lists.specs.Lists.{splice}
 use Rattle.lists.proofs.Cases.{same_or}
-use Rattle.words.specs.Words.{digits}
-use Rattle.consts.specs.Consts.{end_of_chain}
 use Rattle.sectors.specs.Sectors.{start_of, per_sector}
-use Rattle.sectors.specs.Init.{init_bytes}
-use Rattle.sectors.specs.declared.init.SectorInit.TheVariants.{Zero}
 use Rattle.sectors.proofs.Laws.{sector_within}
-use Rattle.fat.specs.Lists.{most}
-use Rattle.disk.specs.Disk.{Disk, store, set_fat, entry_place, ready, new_sector, one_more, reused}
-use Rattle.disk.specs.Fits.{FitsWhole, FitsNew}
+use Rattle.disk.specs.Disk.{Disk, ready, new_sector, one_more, reused}
+use Rattle.disk.specs.Fits.{FitsNew}
 use Rattle.disk.proofs.Fitting.{reused_fits, reused_long, reused_sectors, new_fits, new_long, ready_sectors, new_sectors, one_more_grows}
 use Rattle.hand.specs.Hand.{Hand, taken_id, take_sector}
 use Rattle.hand.specs.Fits.{FitsHand, FitsStock}
 use Rattle.hand.proofs.Pointing.{HandLong, entry_in_hand}
 
--- a FREE sector's entry set, and its bytes made zero
-pub reused_of : (S : ℕ) (image fat fats : List ℕ) (id : ℕ) (put fat' image' : List ℕ)
-    → (put ≡ splice image (entry_place S fats id) (digits 4 end_of_chain)) × (fat' ≡ set fat id end_of_chain) → image' ≡ splice put (start_of S id) (init_bytes S Zero)
-    → (difats : List ℕ) (sectors : ℕ)
-    → record { image = image'; fat = fat'; fats = fats; difats = difats; sectors = sectors }
-    ≡ reused S (record { image = image; fat = fat; fats = fats; difats = difats; sectors = sectors }) id
-unfolding reused store set_fat
-reused_of S image fat fats id put fat' image' p z difats sectors = rw (z, p.0, p.1)
-
--- an empty free list asks for room for a sector more
-pub stock_new : (S R : ℕ) (d : Disk) (frees : List ℕ) (free : ℕ) → FitsStock S R d frees free → free ≡ 0 → FitsNew S R d
-stock_new S R d frees free f e = record { fits = f.disk; room = f.room e }
-
--- a new sector's id is small
-pub new_small : (S R : ℕ) (d : Disk) (id : ℕ) → FitsNew S R d → id ≡ (ready S d).sectors → id < most
-new_small S R d id f e = omega (arith, ready_sectors S d, f.room, f.fits.few, e)
-
--- the last of the free list is a sector in hand
-pub last_below : (S R : ℕ) (d : Disk) (frees : List ℕ) (free : ℕ) → FitsStock S R d frees free → free ≢ 0 → get_or frees (free - 1) 0 < d.sectors
-last_below S R d frees free f e = f.frees_below (free - 1) (omega (arith, e))
-
--- and can be used again
-pub reuse_inside : (S R : ℕ) (d : Disk) (id : ℕ) → FitsWhole S R d → id < d.sectors
-    → ((S ≡ 4 * per_sector S) × (1 ≤ per_sector S))
-    × (((id < length d.fat) × (id / per_sector S < length d.fats))
-    × ((start_of S (get_or d.fats (id / per_sector S) 0) + S ≤ length d.image) × (start_of S id + S ≤ length d.image)))
-reuse_inside S R d id f h =
-    let e = entry_in_hand S R d id f h in
-    ((f.holds.entries, omega (arith, f.holds.two)), ((e.0, e.1), (e.2, sector_within S R (length d.image) id f.holds (omega (arith, f.inside)))))
-
--- a sector taken where none is FREE
-pub taken_new : (S n free : ℕ) (image fat fats difats frees : List ℕ) (id m : ℕ) (image' fat' fats' difats' : List ℕ) → free ≡ 0
-    → (id ≡ (ready S (record { image = image; fat = fat; fats = fats; difats = difats; sectors = n })).sectors)
-    × (record { image = image'; fat = fat'; fats = fats'; difats = difats'; sectors = suc id } ≡ new_sector S (record { image = image; fat = fat; fats = fats; difats = difats; sectors = n }))
-    → m ≡ suc id → (marks : List ℕ)
-    → (id ≡ taken_id S (record { disk = record { image = image; fat = fat; fats = fats; difats = difats; sectors = n }; frees = frees; free = free; marks = marks }))
-    × (record { disk = record { image = image'; fat = fat'; fats = fats'; difats = difats'; sectors = m }; frees = frees; free = 0; marks = marks }
-    ≡ take_sector S (record { disk = record { image = image; fat = fat; fats = fats; difats = difats; sectors = n }; frees = frees; free = free; marks = marks }))
-unfolding taken_id take_sector
-taken_new S n free image fat fats difats frees id m image' fat' fats' difats' z p s marks = (
-  rw (eq-eqb free 0 z) p.0,
-  rw (eq-eqb free 0 z, s, z) (ap (λ (d : Disk). record { disk = d; frees = frees; free = 0; marks = marks }) p.1),
-)
-
--- the last of the free list taken
-pub taken_free : (S n free : ℕ) (image fat fats difats frees : List ℕ) (image' fat' : List ℕ) → free ≢ 0
-    → ((difats : List ℕ) (sectors : ℕ)
-    → record { image = image'; fat = fat'; fats = fats; difats = difats; sectors = sectors }
-    ≡ reused S (record { image = image; fat = fat; fats = fats; difats = difats; sectors = sectors }) (get_or frees (free - 1) 0))
-    → (marks : List ℕ)
-    → (get_or frees (free - 1) 0 ≡ taken_id S (record { disk = record { image = image; fat = fat; fats = fats; difats = difats; sectors = n }; frees = frees; free = free; marks = marks }))
-    × (record { disk = record { image = image'; fat = fat'; fats = fats; difats = difats; sectors = n }; frees = set frees (free - 1) 0; free = free - 1; marks = marks }
-    ≡ take_sector S (record { disk = record { image = image; fat = fat; fats = fats; difats = difats; sectors = n }; frees = frees; free = free; marks = marks }))
-unfolding taken_id take_sector
-taken_free S n free image fat fats difats frees image' fat' z p marks = (
-  rw (ne_eqb free 0 z),
-  rw (ne_eqb free 0 z) (ap (λ (d : Disk). record { disk = d; frees = set frees (free - 1) 0; free = free - 1; marks = marks }) (p difats n)),
-)
+-- the last of the free list is a sector in hand, and can be used again
+pub reuse_inside : (S R : ℕ) (d : Disk) (frees : List ℕ) (free : ℕ) → FitsStock S R d frees free → free ≢ 0
+    → (start_of S (get_or d.fats (get_or frees (free - 1) 0 / per_sector S) 0) + S ≤ length d.image) × (start_of S (get_or frees (free - 1) 0) + S ≤ length d.image)
+reuse_inside S R d frees free f e =
+    let b : get_or frees (free - 1) 0 < d.sectors = f.frees_below (free - 1) (omega (arith, e)) in
+    ((entry_in_hand S R d (get_or frees (free - 1) 0) f.disk b).2, sector_within S R (length d.image) (get_or frees (free - 1) 0) f.disk.holds (omega (arith, b, f.disk.inside)))
 
 -- a sector taken, by whether one is FREE
 pub take_none : (S : ℕ) (h : Hand) → h.free ≡ 0 → take_sector S h ≡ record { disk = new_sector S h.disk; frees = h.frees; free = h.free; marks = h.marks }

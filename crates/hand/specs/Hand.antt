@@ -15,6 +15,10 @@ pub record Hand : Type 0 where
 unfoldable pub marked : ℕ → List ℕ → ℕ → ℕ → List ℕ
 marked n marks t v = choose (ltb t n) (set marks t v) marks
 
+-- what is in hand, with that mark
+abbrev pub with_mark : Hand → ℕ → ℕ → Hand
+with_mark h t v = record { disk = h.disk; frees = h.frees; free = h.free; marks = marked h.disk.sectors h.marks t v }
+
 -- entry i becomes v: the sector that it pointed at loses its mark, and the one that it points at then has it
 unfoldable pub point : ℕ → Hand → ℕ → ℕ → Hand
 unfolding set_fat marked

@@ -19,17 +19,17 @@ use Rattle.words.proofs.Laws.{le_below}
 use Rattle.consts.specs.Consts.{max_regular, invalid_sector, end_of_chain, free_sector}
 use Rattle.fields.specs.Fields.{entry_at, list_of, ids_in, all_free, ids_then_free, unreadable}
 use Rattle.header.specs.Versions.{major_of, shift_of, version_of, is_strict}
-use Rattle.header.specs.Read.{unknown, counts_dirs, read_rows, read_no, read_number, ReadSays}
-use Rattle.header.specs.Write.{write_rows, write_no, write_number, WriteSays}
+use Rattle.header.specs.Read.{unknown, counts_dirs, read_rows, read_no, header_of, ReadSays}
+use Rattle.header.specs.Write.{write_rows, write_no, WriteSays}
 use Rattle.header.specs.Causes.{Broken, GoodList, Cause, WriteCause}
 use Rattle.header.specs.declared.Version.{Version}
 use Rattle.header.specs.declared.Version.TheVariants.{V3, V4}
 use Rattle.header.specs.declared.Validation.{Validation}
 use Rattle.header.specs.declared.Validation.TheVariants.{Permissive, Strict}
 use Rattle.header.specs.declared.Header.{Header}
-use Rattle.header.specs.declared.ReadVerdict.{ReadVerdict}
-use Rattle.header.specs.declared.Read.{Read}
-use Rattle.header.specs.declared.WriteVerdict.{WriteVerdict}
+use Rattle.consts.specs.declared.refusal.Refusal.{Refusal}
+use Rattle.consts.proofs.Refusals.{ends_apart, answers_apart}
+use Rattle.std.specs.Prelude.{Result}
 use Rattle.fields.proofs.Listed.{ids_within}
 
 -- the ids that a list begins with are sector numbers
@@ -259,51 +259,10 @@ module _ (h : Header) (n : ℕ) where
   unfolding write_no
   write_accepts = accepted write_judged
 
--- what can be had back from its number is told apart by it
-told_apart : {A : Type 0} (number : A → ℕ) (back : ℕ → A) → ((v : A) → back (number v) ≡ v) → (v w : A) → number v ≡ number w → v ≡ w
-told_apart number back same v w e = sym (same v) ∙ ap back e ∙ same w
-
--- two answers of the reader with one number are one answer
-read_apart : (v w : ReadVerdict) → read_number v ≡ read_number w → v ≡ w
-read_apart = told_apart read_number answer same
-  where
-    answer : ℕ → ReadVerdict
-    answer n =
-        get_or (ReadVerdict.Accepted ∷ ReadVerdict.Short ∷ ReadVerdict.Signature ∷ ReadVerdict.ByteOrder ∷ ReadVerdict.Major ∷ ReadVerdict.SectorShift
-        ∷ ReadVerdict.MiniShift ∷ ReadVerdict.Directories ∷ ReadVerdict.Cutoff ∷ ReadVerdict.Entries ∷ []) n ReadVerdict.Accepted
-
-    same : (v : ReadVerdict) → answer (read_number v) ≡ v
-    same ReadVerdict.Accepted = refl
-    same ReadVerdict.Short = refl
-    same ReadVerdict.Signature = refl
-    same ReadVerdict.ByteOrder = refl
-    same ReadVerdict.Major = refl
-    same ReadVerdict.SectorShift = refl
-    same ReadVerdict.MiniShift = refl
-    same ReadVerdict.Directories = refl
-    same ReadVerdict.Cutoff = refl
-    same ReadVerdict.Entries = refl
-
--- two answers of the writer with one number are one answer
-write_apart : (v w : WriteVerdict) → write_number v ≡ write_number w → v ≡ w
-write_apart = told_apart write_number answer same
-  where
-    answer : ℕ → WriteVerdict
-    answer n = choose (eqb n 1) WriteVerdict.Short (choose (eqb n 7) WriteVerdict.Directories (choose (eqb n 9) WriteVerdict.Entries WriteVerdict.Written))
-
-    same : (v : WriteVerdict) → answer (write_number v) ≡ v
-    same WriteVerdict.Written = refl
-    same WriteVerdict.Short = refl
-    same WriteVerdict.Directories = refl
-    same WriteVerdict.Entries = refl
-
 -- any two results that the reader's contract permits are the same
-pub read_unique : (b : List ℕ) (m : Validation) (r s : Read) → ReadSays b m r → ReadSays b m s → r ≡ s
-read_unique b m r s p q =
-    let v : r.verdict ≡ s.verdict = read_apart _ _ (p.number ∙ sym q.number) in
-    let h : r.header ≡ s.header = p.header ∙ sym q.header in
-    λ i. record { verdict = v i; header = h i }
+pub read_unique : (b : List ℕ) (m : Validation) (r s : Result Header Refusal) → ReadSays b m r → ReadSays b m s → r ≡ s
+read_unique b m r s p q = answers_apart r s (header_of b) (p.number ∙ sym q.number) p.header q.header
 
 -- any two results that the writer's contract permits are the same, answer and buffer
-pub write_unique : (h : Header) (b after after' : List ℕ) (v w : WriteVerdict) → WriteSays h b after v → WriteSays h b after' w → (after ≡ after') × (v ≡ w)
-write_unique h b after after' v w p q = (p.buffer ∙ sym q.buffer, write_apart v w (p.number ∙ sym q.number))
+pub write_unique : (h : Header) (b after after' : List ℕ) (r s : Result (Unit {0}) Refusal) → WriteSays h b after r → WriteSays h b after' s → (after ≡ after') × (r ≡ s)
+write_unique h b after after' r s p q = (p.buffer ∙ sym q.buffer, ends_apart r s (p.number ∙ sym q.number))

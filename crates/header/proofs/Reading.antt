@@ -1,6 +1,6 @@
 -- The number that a reading ends with, row by row, and what the reader then says. Assumes nothing.
 use Prim.Native.Nat.{ℕ, ◌≤◌, ◌<◌}
-use mathlib.Core.Path.{◌≡◌, refl, sym, ◌∙◌, ap}
+use mathlib.Core.Path.{◌≡◌, refl, sym, ◌∙◌}
 use mathlib.Core.Bool.{true, false, not}
 use mathlib.Core.List.{List, [], ◌∷◌}
 use borrow.Author.Tests.{lt-ltb, le-ltb, eq-eqb, ne_eqb}
@@ -10,12 +10,14 @@ use Rattle.lists.specs.Rows.{row, refusal, distinct}
 use Rattle.lists.proofs.Rows.{Passed, passed_none, passed_more, passed_given, append_given, append_none}
 use Rattle.consts.specs.Consts.{signature}
 use Rattle.fields.specs.Fields.{list_of, ids_then_free}
-use Rattle.header.specs.Read.{fixed_of, fixed_rows, read_rows, read_no, read_number, header_of, none, ReadSays}
+use Rattle.header.specs.Read.{fixed_of, fixed_rows, read_rows, read_no, header_of, none, header_left, ReadSays}
 use Rattle.header.specs.declared.Validation.{Validation}
 use Rattle.header.specs.declared.Header.{Header}
-use Rattle.header.specs.declared.ReadVerdict.{ReadVerdict}
-use Rattle.header.specs.declared.ReadVerdict.TheVariants.{Accepted}
-use Rattle.header.specs.declared.Read.{Read}
+use Rattle.consts.specs.Refusals.{number_of}
+use Rattle.consts.specs.declared.refusal.Refusal.{Refusal}
+use Rattle.std.specs.Prelude.{Result, Ok, Err}
+use Rattle.std.specs.Result.{result_unwrap_or}
+use Rattle.consts.proofs.Refusals.{number_not}
 
 module _ (m : Validation) (b : List ℕ) where
   pub gives_1 : length b < 512 → 1 ≡ read_no m b
@@ -57,12 +59,13 @@ module _ (m : Validation) (b : List ℕ) where
         gives_0 h = sym (nine ∙ rw h)
 
 -- a refusal with its number, and a header that is read
-pub says_no : (m : Validation) (b : List ℕ) (v : ReadVerdict) (r : Read) → r ≡ record { verdict = v; header = none } → (read_number v ≡ 0 → ⊥) → read_number v ≡ read_no m b → ReadSays b m r
-says_no m b v r e n k =
-    record {
-      number = ap (λ (x : Read). read_number x.verdict) e ∙ k;
-      header = ap (λ (x : Read). x.header) e ∙ rw (ne_eqb (read_no m b) 0 (λ z. n (k ∙ z)));
-    }
+pub says_no : (m : Validation) (b : List ℕ) (e : Refusal) → number_of e ≡ read_no m b → ReadSays b m (Err e)
+says_no m b e k = record { number = k; header = tt }
 
-pub says_yes : (m : Validation) (b : List ℕ) (h : Header) → h ≡ header_of b → 0 ≡ read_no m b → ReadSays b m (record { verdict = Accepted; header = h })
-says_yes m b h e k = record { number = k; header = e ∙ rw (eq-eqb (read_no m b) 0 (sym k)) }
+pub says_yes : (m : Validation) (b : List ℕ) (h : Header) → h ≡ header_of b → 0 ≡ read_no m b → ReadSays b m (Ok h)
+says_yes m b h e k = record { number = k; header = e }
+
+-- the header that a reading leaves, with the empty one beside a refusal
+pub left_by : (m : Validation) (b : List ℕ) (r : Result Header Refusal) → ReadSays b m r → result_unwrap_or r none ≡ header_left m b
+left_by m b (Ok h) says = says.header ∙ rw (eq-eqb (read_no m b) 0 (sym says.number))
+left_by m b (Err e) says = rw (ne_eqb (read_no m b) 0 (λ z. number_not e (says.number ∙ z)))

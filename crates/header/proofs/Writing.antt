@@ -14,12 +14,14 @@ use Rattle.consts.specs.Consts.{signature, minor_version, byte_order, mini_shift
 use Rattle.header.specs.Versions.{major_of, shift_of}
 use Rattle.header.specs.Read.{counts_dirs}
 use Rattle.fields.specs.Fields.{list_bytes, unreadable}
-use Rattle.header.specs.Write.{start_bytes, number_bytes, header_bytes, write_rows, write_no, write_number, WriteSays}
+use Rattle.header.specs.Write.{start_bytes, number_bytes, header_bytes, write_rows, write_no, WriteSays}
 use Rattle.header.specs.declared.Version.{Version}
 use Rattle.header.specs.declared.Validation.TheVariants.{Strict}
 use Rattle.header.specs.declared.Header.{Header}
-use Rattle.header.specs.declared.WriteVerdict.{WriteVerdict}
-use Rattle.header.specs.declared.WriteVerdict.TheVariants.{Written}
+use Rattle.consts.specs.Refusals.{number_of}
+use Rattle.consts.specs.declared.refusal.Refusal.{Refusal}
+use Rattle.consts.proofs.Refusals.{number_not}
+use Rattle.std.specs.Prelude.{Ok, Err}
 use Rattle.fields.proofs.Listed.{length_list_bytes}
 
 -- the fields from the signature to the reserved bytes, b being the buffer before, b1 to b8 after each store
@@ -115,8 +117,8 @@ module _ (h : Header) (n : ℕ) where
       gives_0 t = passed_all (write_rows h n) (passed_more (write_rows h n) 2 past_2 t)
 
 -- a refusal with its number leaves the buffer, and a header is written
-pub says_no : (h : Header) (b : List ℕ) (v : WriteVerdict) → (write_number v ≡ 0 → ⊥) → write_number v ≡ write_no h (length b) → WriteSays h b b v
-says_no h b v n k = record { number = k; buffer = rw (ne_eqb (write_no h (length b)) 0 (λ z. n (k ∙ z))) }
+pub says_no : (h : Header) (b : List ℕ) (e : Refusal) → number_of e ≡ write_no h (length b) → WriteSays h b b (Err e)
+says_no h b e k = record { number = k; buffer = rw (ne_eqb (write_no h (length b)) 0 (λ z. number_not e (k ∙ z))) }
 
-pub says_yes : (h : Header) (b after : List ℕ) → after ≡ splice b 0 (header_bytes h) → 0 ≡ write_no h (length b) → WriteSays h b after Written
+pub says_yes : (h : Header) (b after : List ℕ) → after ≡ splice b 0 (header_bytes h) → 0 ≡ write_no h (length b) → WriteSays h b after (Ok tt)
 says_yes h b after e k = record { number = k; buffer = e ∙ rw (eq-eqb (write_no h (length b)) 0 (sym k)) }

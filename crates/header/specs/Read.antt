@@ -1,5 +1,5 @@
 -- What reading a header gives: document 01's refusals 1 to 9, and the content by MS-CFB 2.2. Assumes nothing.
-use Rattle.std.specs.Prelude.{ℕ, ◌≡◌, Bool, not, List, [], ◌∷◌, ◌++◌, eqb, ltb, length, replicate}
+use Rattle.std.specs.Prelude.{ℕ, ◌≡◌, Bool, not, List, [], ◌∷◌, ◌++◌, eqb, ltb, length, replicate, Result, IfOk}
 use Rattle.lists.specs.Lists.{choose, both, part, same_list}
 use Rattle.lists.specs.Rows.{Row, row, refusal}
 use Rattle.consts.specs.Consts.{signature, byte_order, mini_shift, mini_cutoff, end_of_chain, free_sector}
@@ -9,22 +9,8 @@ use Rattle.header.specs.declared.Version.TheVariants.{V3}
 use Rattle.header.specs.declared.Validation.{Validation}
 use Rattle.header.specs.declared.judge.Fixed.{Fixed}
 use Rattle.header.specs.declared.Header.{Header}
-use Rattle.header.specs.declared.ReadVerdict.{ReadVerdict}
-use Rattle.header.specs.declared.ReadVerdict.TheVariants.{Accepted, Short, Signature, ByteOrder, Major, SectorShift, MiniShift, Directories, Cutoff, Entries}
-use Rattle.header.specs.declared.Read.{Read}
-
--- document 01's number for each case of the answer; an acceptance has 0
-abbrev pub read_number : ReadVerdict → ℕ
-read_number Accepted = 0
-read_number Short = 1
-read_number Signature = 2
-read_number ByteOrder = 3
-read_number Major = 4
-read_number SectorShift = 5
-read_number MiniShift = 6
-read_number Directories = 7
-read_number Cutoff = 8
-read_number Entries = 9
+use Rattle.consts.specs.Refusals.{ends_with}
+use Rattle.consts.specs.declared.refusal.Refusal.{Refusal}
 
 -- the numbers that a header is judged by
 unfoldable pub fixed_of : List ℕ → Fixed
@@ -105,7 +91,7 @@ none = record { version = V3; dirs = 0; fats = 0; dir = 0; minifat = 0; minifats
 abbrev pub header_left : Validation → List ℕ → Header
 header_left m b = choose (eqb (read_no m b) 0) (header_of b) none
 
--- what the reader says of b: document 01's number, and the header beside it
-pub record ReadSays (b : List ℕ) (m : Validation) (r : Read) : Type 0 where
-  pub number : read_number r.verdict ≡ read_no m b
-  pub header : r.header ≡ header_left m b
+-- what the reader says of b: document 01's number, and the header where there is none against it
+pub record ReadSays (b : List ℕ) (m : Validation) (r : Result Header Refusal) : Type 0 where
+  pub number : ends_with r ≡ read_no m b
+  pub header : IfOk r (λ h. h ≡ header_of b)

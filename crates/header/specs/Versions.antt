@@ -1,10 +1,10 @@
 -- The format's versions and modes as numbers (MS-CFB 2.2). Assumes nothing.
-use Rattle.std.specs.Prelude.{ℕ, Bool, true, false, eqb}
+use Rattle.std.specs.Prelude.{ℕ, Bool, true, false, eqb, Result, Ok, Err}
 use Rattle.lists.specs.Lists.{choose}
+use Rattle.consts.specs.declared.refusal.Refusal.{Refusal}
+use Rattle.consts.specs.declared.refusal.Refusal.TheVariants as refusals
 use Rattle.header.specs.declared.Version.{Version}
 use Rattle.header.specs.declared.Version.TheVariants.{V3, V4}
-use Rattle.header.specs.declared.Numbered.{Numbered}
-use Rattle.header.specs.declared.Numbered.TheVariants.{Known, Unknown}
 use Rattle.header.specs.declared.Validation.{Validation}
 use Rattle.header.specs.declared.Validation.TheVariants.{Permissive, Strict}
 
@@ -23,9 +23,9 @@ abbrev pub length_of : Version → ℕ
 length_of V3 = 512
 length_of V4 = 4096
 
--- the version of a major version number, if there is one
-unfoldable pub numbered_of : ℕ → Numbered
-numbered_of n = choose (eqb n 3) (Known V3) (choose (eqb n 4) (Known V4) Unknown)
+-- the version of a major version number; any other number is refused by 4
+unfoldable pub numbered_of : ℕ → Result Version Refusal
+numbered_of n = choose (eqb n 3) (Ok V3) (choose (eqb n 4) (Ok V4) (Err refusals.Version))
 
 -- the version of a header whose major version is 3 or 4
 unfoldable pub version_of : ℕ → Version

@@ -1,5 +1,5 @@
 -- What writing a header gives: document 01's refusals 1, 7 and 9, and the bytes by MS-CFB 2.2. Assumes nothing.
-use Rattle.std.specs.Prelude.{ℕ, ◌^◌, ◌<◌, ◌≡◌, List, [], ◌∷◌, ◌++◌, eqb, ltb, length, replicate}
+use Rattle.std.specs.Prelude.{ℕ, ◌^◌, ◌<◌, ◌≡◌, List, [], ◌∷◌, ◌++◌, eqb, ltb, length, replicate, Result}
 use Rattle.lists.specs.Lists.{choose, splice, Below}
 use Rattle.lists.specs.Rows.{Row, row, refusal}
 use Rattle.words.specs.Words.{digits}
@@ -10,15 +10,8 @@ use Rattle.header.specs.Read.{counts_dirs}
 use Rattle.header.specs.declared.Version.{Version}
 use Rattle.header.specs.declared.Validation.TheVariants.{Strict}
 use Rattle.header.specs.declared.Header.{Header}
-use Rattle.header.specs.declared.WriteVerdict.{WriteVerdict}
-use Rattle.header.specs.declared.WriteVerdict.TheVariants.{Written, Short, Directories, Entries}
-
--- document 01's number for each case of the answer; a header that is written has 0
-abbrev pub write_number : WriteVerdict → ℕ
-write_number Written = 0
-write_number Short = 1
-write_number Directories = 7
-write_number Entries = 9
+use Rattle.consts.specs.Refusals.{ends_with}
+use Rattle.consts.specs.declared.refusal.Refusal.{Refusal}
 
 -- document 01: the writer's refusals, of h into n lent bytes
 unfoldable pub write_rows : Header → ℕ → List Row
@@ -53,8 +46,8 @@ unfolding start_bytes number_bytes list_bytes
 header_bytes h = start_bytes h.version ++ (number_bytes h ++ list_bytes h.list)
 
 -- what the writer says of h and a buffer: document 01's number, and what the buffer then holds
-pub record WriteSays (h : Header) (before after : List ℕ) (v : WriteVerdict) : Type 0 where
-  pub number : write_number v ≡ write_no h (length before)
+pub record WriteSays (h : Header) (before after : List ℕ) (r : Result (Unit {0}) Refusal) : Type 0 where
+  pub number : ends_with r ≡ write_no h (length before)
   pub buffer : after ≡ choose (eqb (write_no h (length before)) 0) (splice before 0 (header_bytes h)) before
 
 -- a header of the code's own types: every number below 2 ^ 32, and 109 entries

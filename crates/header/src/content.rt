@@ -2,11 +2,11 @@
 ghost use Rattle.std.specs.Prelude.{◌≡◌, ◌≤◌, length};
 ghost use Rattle.lists.specs.Lists.{splice};
 ghost use Rattle.fields.specs.Fields.{dirs_at, offset_of};
-ghost use Rattle.header.specs.Read.{dirs_of, end_if_free, header_of, none};
+ghost use Rattle.header.specs.Read.{dirs_of, end_if_free, header_of};
 ghost use Rattle.header.specs.Write.{start_bytes, number_bytes};
 
 use crate::judge::version_of;
-use crate::{Header, Read, ReadVerdict, Version};
+use crate::{Header, Version};
 use fields::entries::read_list;
 use fields::*;
 use reader::read_fields;
@@ -47,14 +47,6 @@ pub fn content(b: &[u8]) -> Header
         difats: n.difats,
         list,
     }
-}
-
-// A refusal, and the header beside it.
-pub(crate) fn refused(verdict: ReadVerdict) -> Read
-    ensures { result ≡ record { verdict = verdict; header = none } }
-{
-    let header = Header::none();
-    Read { verdict, header }
 }
 
 // Stores the fields from the signature to the reserved bytes.

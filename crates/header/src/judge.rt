@@ -1,10 +1,12 @@
 // The numbers that a header is judged by, and their verdict (document 01, refusals 3 to 8).
 ghost use Rattle.std.specs.Prelude.{◌≡◌, ◌≤◌, length};
 ghost use Rattle.lists.specs.Rows.{refusal};
+ghost use Rattle.consts.specs.Refusals.{ends_with};
 ghost use Rattle.header.specs.Versions.{version_of};
-ghost use Rattle.header.specs.Read.{read_number, fixed_of, unknown as unknown_of, counts_dirs, fixed_rows};
+ghost use Rattle.header.specs.Read.{fixed_of, unknown as unknown_of, counts_dirs, fixed_rows};
 
-use crate::{ReadVerdict, Validation, Version};
+use crate::{Validation, Version};
+use consts::refusal::Refusal;
 use reader::read_fields;
 
 // The numbers that a header is judged by.
@@ -65,26 +67,26 @@ pub fn version_of(major: u32) -> Version
 }
 
 // The first cause among those numbers, if there is one.
-pub(crate) fn judge(f: Fixed, validation: Validation) -> ReadVerdict
-    ensures { read_number result ≡ refusal (fixed_rows validation f) }
+pub(crate) fn judge(f: Fixed, validation: Validation) -> Result<(), Refusal>
+    ensures { ends_with result ≡ refusal (fixed_rows validation f) }
 {
     if f.order != consts::BYTE_ORDER_MARK as u32 {
-        return ReadVerdict::ByteOrder;
+        return Err(Refusal::ByteOrder);
     }
     if unknown(f.major) {
-        return ReadVerdict::Major;
+        return Err(Refusal::Version);
     }
     if f.shift != version_of(f.major).sector_shift() {
-        return ReadVerdict::SectorShift;
+        return Err(Refusal::SectorShift);
     }
     if f.mini != consts::MINI_SECTOR_SHIFT as u32 {
-        return ReadVerdict::MiniShift;
+        return Err(Refusal::MiniSectorShift);
     }
     if counts_dirs(validation, f.major, f.dirs) {
-        return ReadVerdict::Directories;
+        return Err(Refusal::DirSectors);
     }
     if f.cutoff != consts::MINI_STREAM_CUTOFF {
-        return ReadVerdict::Cutoff;
+        return Err(Refusal::Cutoff);
     }
-    ReadVerdict::Accepted
+    Ok(())
 }

@@ -1,7 +1,7 @@
 -- The laws of a FAT's marks, of its judging and of its FREE sectors. Assumes nothing.
 use Prim.Native.Nat.{ℕ, zero, suc, ◌+◌, ◌-◌, ◌≤◌, ◌<◌}
 use mathlib.Core.Path.{◌≡◌, refl, sym, ◌∙◌, ap}
-use mathlib.Core.Bool.{Bool, true, false, not, ◌&&◌, ◌||◌}
+use mathlib.Core.Bool.{Bool, true, false, not, ◌||◌}
 use mathlib.Core.List.{List, [], ◌∷◌, ◌++◌, append-nil}
 use mathlib.Core.Logic.{◌⊎◌, inl, inr, ⊎_elim, ◌≢◌, ◌↔◌}
 use native.Mathlib.Omega.{arith}
@@ -15,7 +15,7 @@ use Rattle.lists.specs.Lists.{choose, both, either, every}
 use Rattle.lists.proofs.Cases.{below_or, same_or, not_both, both_true, both_false_left, both_false_right, either_cases, either_right, every_ext}
 use Rattle.lists.proofs.Tab.{length_tab, get_or_tab, is_tab}
 use Rattle.consts.specs.Consts.{max_regular, invalid_sector, end_of_chain, free_sector}
-use Rattle.judge.specs.Judge.{regular, forgiven, pointed, wrong_at, first_wrong, forgiven_fat, marks_of, frees_from, frees_of}
+use Rattle.judge.specs.Judge.{regular, forgiven, pointed, wrong_at, first_wrong, forgiven_fat, marks_of, none_dangles, frees_from, frees_of}
 use Rattle.judge.specs.Judged.{wrong_by, marked_by, JudgedOne, Judged, Listed}
 
 -- who points at a sector: one entry more
@@ -226,19 +226,16 @@ judging_begun strict fat marks small e =
     record { small = small; most = omega arith; rest = rw sub-zero; table = forgiving_none fat; marked = marked_none (length fat) fat marks e }
 
 module _ {strict : Bool} {fat₀ : List ℕ} {i : ℕ} {fat marks : List ℕ} (g : Judging strict fat₀ i fat marks) where
-  pub judging_ends : length fat ≤ i → Judged strict fat₀ 0 fat marks
+  pub judging_ends : length fat₀ ≤ i → Judged strict fat₀ 0 fat marks
   judging_ends h =
-      let all : i ≡ length fat₀ = omega (arith, g.most, g.table.long) in
+      let all : i ≡ length fat₀ = omega (arith, g.most) in
       record {
-        number = sym (g.rest ∙ first_wrong_none strict (length fat₀) fat₀ i (omega arith));
+        number = sym (g.rest ∙ first_wrong_none strict (length fat₀) fat₀ i h);
         table = λ z. forgiving_all (length fat₀) fat₀ fat (rw all at g.table);
         marked = λ z. marked_all (length fat₀) fat₀ marks g.small (rw all at g.marked);
       }
 
-  module _ {r : ℕ} {fat' marks' : List ℕ} (h : i < length fat) (one : JudgedOne strict i fat marks r fat' marks') where
-    low : i < length fat₀
-    low = omega (arith, g.table.long)
-
+  module _ {r : ℕ} {fat' marks' : List ℕ} (low : i < length fat₀) (one : JudgedOne strict i fat marks r fat' marks') where
     -- the sector's number is the one that the definition gives it
     same : r ≡ wrong_at strict (length fat₀) fat₀ i
     same =
@@ -310,26 +307,20 @@ module _ (strict : Bool) (i : ℕ) (fat marks : List ℕ) where
       marked = λ z. sym (marked_set (length fat) marks (get_or fat i 0) r l);
     }
 
--- the loop that looks for a FREE sector that is pointed to: what holds of a sector, and a turn
-abbrev pub sound : ℕ → List ℕ → ℕ → Bool
-sound n fat i = not (both (pointed fat n i) (eqb (get_or fat i 0) free_sector))
-
-pub sound_more : (n : ℕ) (fat marks : List ℕ) (i : ℕ) (fine : Bool) → marks ≡ marks_of n fat → i < n → fine ≡ every i (sound n fat)
-    → (fine && (not (eqb (get_or fat i 0) free_sector) || not (eqb (get_or marks i 0) 1))) ≡ every (i + 1) (sound n fat)
-unfolding every
-sound_more n fat marks i fine e h f =
-    let p : eqb (get_or marks i 0) 1 ≡ pointed fat n i = ap (λ (x : ℕ). eqb x 1) (mark_at n fat marks i e h) ∙ mark_tests (pointed fat n i) in
-    rw (add-one i, p, f) (at (eqb (get_or fat i 0) free_sector) (pointed fat n i) (every i (sound n fat)))
+-- the fold that looks for a FREE sector that is pointed to: its test of a sector is the definition's
+pub sound_tests : (n : ℕ) (fat marks : List ℕ) → marks ≡ marks_of n fat
+    → every n (λ i. not (eqb (get_or fat i 0) free_sector) || not (eqb (get_or marks i 0) 1)) ≡ none_dangles n fat
+unfolding none_dangles
+sound_tests n fat marks e =
+    every_ext n _ _
+    (λ i h. ap (λ (m : Bool). not (eqb (get_or fat i 0) free_sector) || not m) (ap (λ (x : ℕ). eqb x 1) (mark_at n fat marks i e h) ∙ mark_tests (pointed fat n i))
+    ∙ at (eqb (get_or fat i 0) free_sector) (pointed fat n i))
   where
-    at : (a p r : Bool) → (r && (not a || not p)) ≡ both (not (both p a)) r
-    at true true true = refl
-    at true true false = refl
-    at true false true = refl
-    at true false false = refl
-    at false true true = refl
-    at false true false = refl
-    at false false true = refl
-    at false false false = refl
+    at : (a p : Bool) → (not a || not p) ≡ not (both p a)
+    at true true = refl
+    at true false = refl
+    at false true = refl
+    at false false = refl
 
 -- the FREE sectors, from the front: one that is, one that is not
 frees_yes : (fat : List ℕ) (i c : ℕ) → get_or fat i 0 ≡ free_sector → frees_from fat i (suc c) ≡ i ∷ frees_from fat (suc i) c

@@ -5,23 +5,13 @@ ghost use Rattle.consts.specs.Consts.{difat_sector, fat_sector};
 ghost use Rattle.fat.specs.Lists.{all_below};
 ghost use Rattle.judge.specs.Judge.{all_marked, set_all, marked_fat};
 
-use fat::places::index;
-
 // Whether the entry of every listed sector is v. No early way out either.
 pub fn all_marked(fat: &[u32], ids: &[u32], v: u32) -> bool
     requires { all_below (length fat.now) ids.now ≡ true }
     ensures { result ≡ all_marked fat.now ids.now v }
 {
-    let mut marked = true;
-    let mut j = 0;
-    while j < ids.len() {
-        let i = index(ids[j]);
-        if fat[i] != v {
-            marked = false;
-        }
-        j += 1;
-    }
-    marked
+    ids.iter()
+        .fold(true, |marked, id| marked & (fat[*id as usize] == v))
 }
 
 // Makes the entry of every listed sector v.
@@ -29,11 +19,8 @@ pub fn set_all(fat: &mut [u32], ids: &[u32], v: u32)
     requires { all_below (length fat.old) ids.now ≡ true }
     ensures { fat.new ≡ set_all fat.old ids.now v }
 {
-    let mut j = 0;
-    while j < ids.len() {
-        let i = index(ids[j]);
-        fat[i] = v;
-        j += 1;
+    for id in ids {
+        fat[*id as usize] = v;
     }
 }
 
@@ -43,10 +30,7 @@ pub fn listed_marked(fat: &[u32], difats: &[u32], fats: &[u32]) -> bool
     requires fats_value { all_below (length fat.now) fats.now ≡ true }
     ensures { result ≡ both (all_marked fat.now difats.now difat_sector) (all_marked fat.now fats.now fat_sector) }
 {
-    if !all_marked(fat, difats, consts::DIFAT_SECTOR) {
-        return false;
-    }
-    all_marked(fat, fats, consts::FAT_SECTOR)
+    all_marked(fat, difats, consts::DIFAT_SECTOR) && all_marked(fat, fats, consts::FAT_SECTOR)
 }
 
 // Gives the sectors of the DIFAT their mark, and then those of the FAT theirs.

@@ -1,11 +1,10 @@
 -- A list that is put into another element by element, the words of a header, and its mode's number. Assumes nothing.
 use Prim.Native.Nat.{ℕ, ◌+◌, ◌≤◌, ◌<◌}
 use mathlib.Core.Path.{◌≡◌, sym, ◌∙◌, ap}
-use mathlib.Core.List.{List, [], ◌++◌, append-nil}
-use mathlib.Core.Logic.{◌≢◌}
+use mathlib.Core.List.{List, [], ◌∷◌, ◌++◌, append-nil}
 use native.Mathlib.Numerals.{add-one}
 use native.Mathlib.Omega.{arith}
-use borrow.Author.Tests.{eq-eqb, ne_eqb}
+use borrow.Rule.Slice.PartMut.{put_mid}
 use lib.ListN.{length, get_or, take, drop, set, replicate, length-drop, length-replicate, replicate-append-replicate, drop_of_length-le}
 use lib.Seq.{take-suc, take_all, length-take-le, get_or-drop, take_at}
 use Rattle.lists.specs.Lists.{splice}
@@ -13,9 +12,8 @@ use Rattle.lists.proofs.Splice.{splice_whole}
 use Rattle.words.proofs.Laws.{put_more, copied_more}
 use Rattle.header.specs.Versions.{major_of}
 use Rattle.header.specs.declared.Version.{Version}
-use Rattle.header.specs.declared.Validation.TheVariants.{Permissive, Strict}
 use Rattle.header.specs.declared.Header.{Header}
-use Rattle.layout.specs.Layout.{mode_of, words_of, header_with}
+use Rattle.layout.specs.Layout.{words_of, header_with}
 
 -- one element more of a list that goes in from place o on
 pub placed_more : (b : List ℕ) (o : ℕ) (xs : List ℕ) (i : ℕ) {l : List ℕ} → l ≡ splice b o (take i xs) → i < length xs → o + length xs ≤ length b
@@ -49,24 +47,18 @@ taken_list o n words i e m h =
     let same : length (drop o words) ≡ length (replicate {A = ℕ} n 0) = rest ∙ sym (length-replicate {A = ℕ} n 0) in
     e ∙ rw (take_all i (drop o words) (omega arith)) (splice_whole (replicate n 0) (drop o words) same)
 
--- eight numbers put over the zeros before a list are the words of a header
-pub words_stored : (h : Header) {words : List ℕ} {major : ℕ} → words ≡ replicate 8 0 ++ h.list → major ≡ major_of h.version
-    → set (set (set (set (set (set (set (set words 0 major) 1 h.dirs) 2 h.fats) 3 h.dir) 4 h.minifat) 5 h.minifats) 6 h.difat) 7 h.difats ≡ words_of h
+-- eight numbers copied over the front of 117 words, and a list over the others, are the words of a header
+pub words_stored : (h : Header) {numbers list : List ℕ} (rest : List ℕ) {major : ℕ} → length rest ≡ 109 → major ≡ major_of h.version
+    → numbers ≡ major ∷ h.dirs ∷ h.fats ∷ h.dir ∷ h.minifat ∷ h.minifats ∷ h.difat ∷ h.difats ∷ [] → list ≡ h.list → put_mid 8 109 (numbers ++ rest) list ≡ words_of h
 unfolding words_of
-words_stored h e m = rw (e, m)
+words_stored h rest whole m n l =
+    let none : drop 109 rest ≡ [] = drop_of_length-le rest {i = 109} (omega arith) in
+    rw (n, l, m, none) (ap (λ (xs : List ℕ). major_of h.version ∷ h.dirs ∷ h.fats ∷ h.dir ∷ h.minifat ∷ h.minifats ∷ h.difat ∷ h.difats ∷ xs) (append-nil h.list))
 
--- numbers that are read at their places, and the list behind them, are the header that the words hold
-pub list_held : (v : Version) (words : List ℕ) {list : List ℕ} → list ≡ drop 8 words
+-- numbers that are read at their places, and the list behind them, are the header that 117 words hold
+pub list_held : (v : Version) (words : List ℕ) {list : List ℕ} → length words ≡ 117 → list ≡ take 109 (drop 8 words)
     → ◌≡◌ {A = Header} (record { version = v; dirs = get_or words 1 0; fats = get_or words 2 0; dir = get_or words 3 0; minifat = get_or words 4 0; minifats = get_or words 5 0; difat = get_or words 6 0; difats = get_or words 7 0; list = list }) (header_with v words)
 unfolding header_with
-list_held v words e = rw e
-
--- 0 is permissive
-pub mode_zero : (n : ℕ) → n ≡ 0 → Permissive ≡ mode_of n
-unfolding mode_of
-mode_zero n e = rw (eq-eqb n 0 e)
-
--- any other number is strict
-pub mode_other : (n : ℕ) → n ≢ 0 → Strict ≡ mode_of n
-unfolding mode_of
-mode_other n ne = rw (ne_eqb n 0 ne)
+list_held v words {list = list} whole e =
+    let rest : list ≡ drop 8 words = e ∙ take_all 109 (drop 8 words) (omega (arith, length-drop 8 words, whole)) in
+    rw rest

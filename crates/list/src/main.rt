@@ -16,13 +16,7 @@ fn read_full<R: Read>(input: &mut R, buf: &mut [u8]) -> usize
     ensures bytes { Consumes (R.remaining input.old) (R.remaining input.new) (take result buf.new) }
 {
     let mut done = 0;
-    while done < buf.len() {
-        let Ok(n) = input.read(&mut buf[done..]) else {
-            break;
-        };
-        if n == 0 {
-            break;
-        }
+    while let Ok(n @ 1..) = input.read(&mut buf[done..]) {
         done += n;
     }
     done

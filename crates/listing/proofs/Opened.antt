@@ -21,9 +21,11 @@ use Rattle.judge.specs.Judge.{forgiven_fat}
 use Rattle.alloc.specs.Opening.{Tables, open_fat, open_tables, shortest, first_rows, open_rows, open_no, left_in, padded}
 use Rattle.alloc.specs.Opened.{tables_left}
 use Rattle.alloc.proofs.Filled.{front_padded}
-use Rattle.cfb.specs.Face.{number_of, numbers_of, answer, sectors_of, tables_of, Opens}
-use Rattle.cfb.specs.declared.Verdict.{Verdict}
-use Rattle.cfb.specs.declared.Verdict.TheVariants.{Accepted, Refused}
+use Rattle.cfb.specs.Face.{numbers_of, answer, sectors_of, tables_of, Opens}
+use Rattle.std.specs.Prelude.{Result, Ok, Err}
+use Rattle.consts.specs.Refusals.{ends_with}
+use Rattle.consts.specs.declared.refusal.Refusal.{Refusal}
+use Rattle.cfb.specs.declared.Counts.{Counts}
 use Rattle.cfb.specs.declared.Opened.{Opened}
 use Rattle.cfb.proofs.Facing.{accepted_says, refused_says}
 use Rattle.lines.specs.Lines.{listed, refused_line}
@@ -66,7 +68,7 @@ table_left k before xs z l = rw (eq-eqb k 0 z, l) refl
 
 -- what the face says of a strict opening with tables of 128 elements
 pub opened_fat : (img img' : List ℕ) (t t' : Tables) (r : Opened) → length img ≤ 65536 → length t.fat ≡ 128 → shortest t ≡ 128 → Opens Strict img (length img) t r img' t'
-    → FatOpened img r.verdict t'.fat
+    → FatOpened img r t'.fat
 unfolding tables_left
 opened_fat img img' t t' r h l short says =
     let number : open_no Strict img (length img) (shortest t) ≡ strict_no img = strict_number img t h short in
@@ -81,20 +83,20 @@ unfolding listing
 long_listing img h p = rw (lt-ltb 65536 (length img) h) p
 
 -- the listing of an image that is refused is the line of its number
-pub refused_listing : (img : List ℕ) {fat : List ℕ} {v : Verdict} {w k : ℕ} {o n : Out} → length img ≤ 65536 → FatOpened img v fat → v ≡ Refused k → w ≡ number_of v
+pub refused_listing : (img : List ℕ) {fat : List ℕ} {r : Opened} {w : ℕ} {k : Refusal} {o n : Out} → length img ≤ 65536 → FatOpened img r fat → r.verdict ≡ Err k → w ≡ ends_with r.verdict
     → Pushed o (refused_line w) n → Pushed o (listing img) n
 unfolding listing shown
-refused_listing img {v = v} {w} {k} {o} {n} h f e q p =
-    let s : (strict_no img ≡ 0 → ⊥) × (k ≡ strict_no img) = refused_says k (strict_no img) _ _ (sym (ap numbers_of e) ∙ f.verdict) in
-    let no : w ≡ strict_no img = q ∙ ap number_of e ∙ s.1 in
+refused_listing img {r = r} {w} {k} {o} {n} h f e q p =
+    let s = refused_says k (strict_no img) _ _ (sym (ap numbers_of e) ∙ f.verdict) in
+    let no : w ≡ strict_no img = q ∙ ap ends_with e ∙ s.1 in
     rw (le-ltb 65536 (length img) h, ne_eqb (strict_no img) 0 s.0) (subst (λ (x : ℕ). Pushed o (refused_line x) n) no p)
 
 -- what the verdict of an accepted image counts
-abbrev Counts : List ℕ → ℕ → ℕ → Type 0
-Counts img a c = (strict_no img ≡ 0) × (a ≡ sectors_of img (length img)) × (c ≡ length (tables_of img (length img)).frees)
+abbrev Counted : List ℕ → Counts → Type 0
+Counted img v = (strict_no img ≡ 0) × (v.sectors ≡ sectors_of img (length img)) × (v.free ≡ length (tables_of img (length img)).frees)
 
-accepted_counts : {img fat : List ℕ} {v : Verdict} {a c : ℕ} → FatOpened img v fat → v ≡ Accepted a c → Counts img a c
-accepted_counts {img} {a = a} {c = c} o e = accepted_says a c (strict_no img) _ _ (sym (ap numbers_of e) ∙ o.verdict)
+accepted_counts : {img fat : List ℕ} {r : Opened} {v : Counts} → FatOpened img r fat → r.verdict ≡ Ok v → Counted img v
+accepted_counts {img} {v = v} o e = accepted_says v (strict_no img) _ _ (sym (ap numbers_of e) ∙ o.verdict)
 
 -- the FAT has an entry for each sector
 fat_length : (img : List ℕ) → length (tables_of img (length img)).fat ≡ sectors_of img (length img)
@@ -102,30 +104,30 @@ unfolding tables_of open_tables open_fat forgiven_fat
 fat_length img = length_tab _ (sectors_of img (length img))
 
 -- the front of the table that is left is the FAT
-accepted_front : {img fat : List ℕ} {v : Verdict} {a c : ℕ} → FatOpened img v fat → v ≡ Accepted a c → take a fat ≡ (tables_of img (length img)).fat
-accepted_front {img} {fat} {a = a} o e =
-    let k : Counts img a _ = accepted_counts o e in
-    front_padded (tables_of img (length img)).fat fat a 128 (o.table k.0) (fat_length img ∙ sym k.1)
+accepted_front : {img fat : List ℕ} {r : Opened} {v : Counts} → FatOpened img r fat → r.verdict ≡ Ok v → take v.sectors fat ≡ (tables_of img (length img)).fat
+accepted_front {img} {fat} {v = v} o e =
+    let k : Counted img v = accepted_counts o e in
+    front_padded (tables_of img (length img)).fat fat v.sectors 128 (o.table k.0) (fat_length img ∙ sym k.1)
 
 -- the front is within the table, and has at most 127 entries
-pub accepted_within : {img fat : List ℕ} {v : Verdict} {a c : ℕ} → FatOpened img v fat → v ≡ Accepted a c → a ≤ length fat
+pub accepted_within : {img fat : List ℕ} {r : Opened} {v : Counts} → FatOpened img r fat → r.verdict ≡ Ok v → v.sectors ≤ length fat
 unfolding padded
-accepted_within {img} o e =
-    let k = accepted_counts o e in
+accepted_within {img} {v = v} o e =
+    let k : Counted img v = accepted_counts o e in
     omega (arith, k.1, fat_length img, ap length (o.table k.0), length-append (tables_of img (length img)).fat (replicate (128 - length (tables_of img (length img)).fat) 0))
 
-pub accepted_short : {img fat : List ℕ} {v : Verdict} {a c : ℕ} → length img ≤ 65536 → FatOpened img v fat → v ≡ Accepted a c → length (take a fat) ≤ 127
+pub accepted_short : {img fat : List ℕ} {r : Opened} {v : Counts} → length img ≤ 65536 → FatOpened img r fat → r.verdict ≡ Ok v → length (take v.sectors fat) ≤ 127
 unfolding sectors_of
 accepted_short {img} h o e = omega (arith, ap length (accepted_front o e), fat_length img, few_sectors (header_of img).version (length img) h)
 
 -- the listing of an image that is accepted is that of its counts and of the front of its table
-pub accepted_listing : (img : List ℕ) {fat : List ℕ} {v : Verdict} {a c : ℕ} {o n : Out} → length img ≤ 65536 → FatOpened img v fat → v ≡ Accepted a c
-    → Pushed o (listed a c (take a fat)) n → Pushed o (listing img) n
+pub accepted_listing : (img : List ℕ) {fat : List ℕ} {r : Opened} {v : Counts} {o n : Out} → length img ≤ 65536 → FatOpened img r fat → r.verdict ≡ Ok v
+    → Pushed o (listed v.sectors v.free (take v.sectors fat)) n → Pushed o (listing img) n
 unfolding listing shown
-accepted_listing img {fat} {v} {a} {c} {o} {n} h f e p =
-    let k : Counts img a c = accepted_counts f e in
-    let text : listed a c (take a fat) ≡ listed (sectors_of img (length img)) (length (tables_of img (length img)).frees) (tables_of img (length img)).fat
-    = ap (listed a c) (accepted_front f e) ∙ ap (λ (x : ℕ). listed x c (tables_of img (length img)).fat) k.1 ∙ ap (λ (x : ℕ). listed (sectors_of img (length img)) x (tables_of img (length img)).fat) k.2 in
+accepted_listing img {fat} {v = v} {o} {n} h f e p =
+    let k : Counted img v = accepted_counts f e in
+    let text : listed v.sectors v.free (take v.sectors fat) ≡ listed (sectors_of img (length img)) (length (tables_of img (length img)).frees) (tables_of img (length img)).fat
+    = ap (listed v.sectors v.free) (accepted_front f e) ∙ ap (λ (x : ℕ). listed x v.free (tables_of img (length img)).fat) k.1 ∙ ap (λ (x : ℕ). listed (sectors_of img (length img)) x (tables_of img (length img)).fat) k.2 in
     rw (le-ltb 65536 (length img) h, eq-eqb (strict_no img) 0 k.0) (subst (λ (x : List ℕ). Pushed o x n) text p)
 
 -- a text that was put at the front is the front

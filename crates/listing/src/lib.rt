@@ -6,34 +6,28 @@ ghost use Rattle.texts.specs.Text.{Put, Pushed};
 ghost use Rattle.listing.specs.Listing.{listing};
 ghost use Rattle.listing.specs.Verdict.{FatOpened};
 
-use cfb::{State, Verdict};
+use cfb::{Opened, State};
 use header::Validation;
 use lines::{put_listed, put_refused};
+use tables::TablesMut;
 use texts::Out;
 
 // The longest image that is listed.
 const MOST: usize = 65536;
 
 // Opens an image strictly and leaves its FAT in `fat`.
-fn open_fat(image: &[u8], fat: &mut [u32; 128]) -> Verdict
+fn open_fat(image: &[u8], fat: &mut [u32; 128]) -> Opened
     requires { length image.now ≤ 65536 }
     ensures { FatOpened image.now result fat.new }
 {
-    let mut fats = [0u32; 128];
-    let mut difats = [0u32; 128];
-    let mut frees = [0u32; 128];
-    let mut marks = [0u8; 128];
-    let opened = State::open(
-        image,
-        image.len(),
-        Validation::Strict,
+    let mut tables = TablesMut {
         fat,
-        &mut fats,
-        &mut difats,
-        &mut frees,
-        &mut marks,
-    );
-    opened.verdict
+        fats: &mut [0u32; 128],
+        difats: &mut [0u32; 128],
+        frees: &mut [0u32; 128],
+        marks: &mut [0u8; 128],
+    };
+    State::open(image, image.len(), Validation::Strict, &mut tables)
 }
 
 // Puts the listing of any bytes.
@@ -46,12 +40,12 @@ fn put_listing(out: &mut Out, image: &[u8])
         return;
     }
     let mut fat = [0u32; 128];
-    let verdict = open_fat(image, &mut fat);
-    let Verdict::Accepted { sectors, free } = verdict else {
-        put_refused(out, verdict.number());
+    let opened = open_fat(image, &mut fat);
+    let Ok(counts) = opened.verdict else {
+        put_refused(out, opened.number());
         return;
     };
-    put_listed(out, sectors, free, &fat[..sectors]);
+    put_listed(out, counts.sectors, counts.free, &fat[..counts.sectors]);
 }
 
 // Puts the listing of any bytes at the front of `out`, and gives its length; what lies past it stays.

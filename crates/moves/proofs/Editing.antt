@@ -10,17 +10,22 @@ use lib.Dec.{ltb}
 use lib.ListN.{length, get_or, take}
 use Rattle.lists.specs.Lists.{choose}
 use Rattle.lists.proofs.Cases.{below_or}
-use Rattle.fat.specs.Lists.{most, ceil}
+use Rattle.fat.specs.Lists.{ceil}
 use Rattle.fat.proofs.Listing.{ceil_enough}
+use Rattle.disk.specs.Held.{SameHand}
+use Rattle.disk.specs.declared.disk.Hand as lent
 use Rattle.stores.specs.Stores.{write_bytes, zero_tail, Writable}
 use Rattle.room.specs.Needed.{resize_more, write_more}
 use Rattle.hand.specs.Hand.{Hand, Chain, extend}
 use Rattle.hand.specs.Fits.{FitsChain, FitsMore}
+use Rattle.hand.specs.Held.{hand_in}
+use Rattle.hand.proofs.Holding.{same_then}
+use Rattle.moves.specs.Held.{chain_in, ChainBecomes}
 use Rattle.moves.specs.Change.{shrink, with_image, ids_of, written, edited, seek_of, edit_more, edit_need, place_of, bytes_of, stored, FitsShrink, FitsResize, FitsWrite, FitsEdit}
 use Rattle.moves.specs.declared.change.Edit.{Edit}
 use Rattle.moves.specs.declared.change.Edit.TheVariants.{Write, Resize}
 use Rattle.moves.proofs.Changing.{chain_small, chain_bytes_small, chain_room, once_writable, resized_more, resized_fewer, resized_fits, write_covers, written_fits}
-use Rattle.moves.proofs.Extending.{chain_of, extend_none, extend_fits, extend_count}
+use Rattle.moves.proofs.Extending.{extend_none, extend_fits, extend_count}
 use Rattle.moves.proofs.Shrinking.{shrink_none, shrink_fits, shrink_count, shrink_ids}
 use Rattle.moves.proofs.Staying.{extend_apart}
 
@@ -37,49 +42,6 @@ edit_resize S R len bytes c f = record { fits = f.fits; apart = f.apart }
 pub edited_fits : (S R : ℕ) (e : Edit) (buf : List ℕ) (c : Chain) → FitsEdit S R e (length buf) c → FitsChain S R (edited S c e buf)
 edited_fits S R (Write offset) buf c f = written_fits S R offset buf c (edit_write S R offset (length buf) c f)
 edited_fits S R (Resize len) buf c f = resized_fits S R len c (edit_resize S R len (length buf) c f)
-
--- what it asks for, by its kind
-pub more_write : (S count : ℕ) (e : Edit) (bytes offset : ℕ) → e ≡ Write offset → edit_more S count e bytes ≡ write_more S count offset bytes
-unfolding edit_more
-more_write S count e bytes offset q = rw q
-
-pub more_resize : (S count : ℕ) (e : Edit) (bytes len : ℕ) → e ≡ Resize len → edit_more S count e bytes ≡ resize_more S count len
-unfolding edit_more
-more_resize S count e bytes len q = rw q
-
-pub seek_write : (e : Edit) (offset end : ℕ) → e ≡ Write offset → seek_of e ≤ end → offset ≤ end
-unfolding seek_of
-seek_write e offset end q h = rw q at h
-
-pub need_write : (S count : ℕ) (e : Edit) (bytes offset more : ℕ) → e ≡ Write offset → more ≡ edit_more S count e bytes → count + more ≡ edit_need S count e bytes
-unfolding edit_more edit_need
-need_write S count e bytes offset more q m = ap (λ (k : ℕ). count + k) m ∙ rw q
-
-pub need_resize : (S count : ℕ) (e : Edit) (bytes len : ℕ) → e ≡ Resize len → edit_need S count e bytes ≡ ceil len S
-unfolding edit_need
-need_resize S count e bytes len q = rw q
-
--- and what it stores
-pub stores_write : (S had count : ℕ) (img ids : List ℕ) (e : Edit) (buf : List ℕ) (offset : ℕ) → e ≡ Write offset → write_bytes S img ids offset buf ≡ stored S had count img ids e buf
-unfolding stored
-stores_write S had count img ids e buf offset q = rw q
-
-pub stores_zeros : (S had count : ℕ) (img ids : List ℕ) (e : Edit) (buf : List ℕ) (len : ℕ) → e ≡ Resize len → count ≤ had → zero_tail S img ids len ≡ stored S had count img ids e buf
-unfolding stored
-stores_zeros S had count img ids e buf len q h = rw (q, le-ltb had count h)
-
-pub stores_none : (S had count : ℕ) (img ids : List ℕ) (e : Edit) (buf : List ℕ) (len : ℕ) → e ≡ Resize len → had < count → img ≡ stored S had count img ids e buf
-unfolding stored
-stores_none S had count img ids e buf len q h = rw (q, lt-ltb had count h)
-
--- where that lies
-pub place_write : (S len : ℕ) (ids : List ℕ) (e : Edit) (bytes offset : ℕ) → e ≡ Write offset → Writable S len ids (place_of e) (bytes_of e bytes) → Writable S len ids offset bytes
-unfolding place_of
-place_write S len ids e bytes offset q w = rw q at w
-
-pub place_resize : (S len : ℕ) (ids : List ℕ) (e : Edit) (bytes to : ℕ) → e ≡ Resize to → Writable S len ids (place_of e) (bytes_of e bytes) → Writable S len ids to 0
-unfolding place_of
-place_resize S len ids e bytes to q w = rw q at w
 
 -- the sectors that the chain has then are those that it has and those that are asked for, or fewer
 need_more : (S count : ℕ) (e : Edit) (bytes : ℕ) → edit_need S count e bytes - count ≡ edit_more S count e bytes
@@ -101,14 +63,18 @@ unfolding fitted
 fitted_fewer S c need g = rw (le-ltb c.count need g)
 
 -- it is what the code leaves
-pub grown_fitted : (S : ℕ) (c : Chain) (need : ℕ) → c.count < need → (h : Hand) (ids : List ℕ)
-    → record { hand = h; ids = ids; count = c.count + (need - c.count) } ≡ extend S c (need - c.count) → record { hand = h; ids = ids; count = need } ≡ fitted S c need
-grown_fitted S c need l h ids x =
-    let k : need ≡ c.count + (need - c.count) = omega (arith, l) in
-    ap (λ (n : ℕ). record { hand = h; ids = ids; count = n }) k ∙ x ∙ sym (fitted_more S c need l)
+abbrev pub Fitted : lent.Hand → lent.Hand → List ℕ → List ℕ → ℕ → ℕ → Type 0
+Fitted a b ids ids' count need = ChainBecomes a b ids' need (fitted a.len (chain_in a ids count) need)
 
-pub cut_fitted : (S : ℕ) (c : Chain) (need : ℕ) → need ≤ c.count → (after : Chain) → after ≡ shrink S c need → after ≡ fitted S c need
-cut_fitted S c need g after x = x ∙ sym (fitted_fewer S c need g)
+pub grown_fitted : {a b : lent.Hand} (ids : List ℕ) {ids' : List ℕ} {count need : ℕ} → count < need
+    → ChainBecomes a b ids' (count + (need - count)) (extend a.len (chain_in a ids count) (need - count)) → Fitted a b ids ids' count need
+grown_fitted {a = a} {b = b} ids {ids' = ids'} {count = count} {need = need} l x =
+    let k : need ≡ count + (need - count) = omega (arith, l) in
+    record { same = x.same; chain = ap (chain_in b ids') k ∙ x.chain ∙ sym (fitted_more a.len (chain_in a ids count) need l) }
+
+pub cut_fitted : {a b : lent.Hand} (ids : List ℕ) {ids' : List ℕ} {count need : ℕ} → need ≤ count
+    → ChainBecomes a b ids' need (shrink a.len (chain_in a ids count) need) → Fitted a b ids ids' count need
+cut_fitted {a = a} ids {count = count} {need = need} g x = rw (fitted_fewer a.len (chain_in a ids count) need g) x
 
 -- a chain that can be edited: numbers that the count of its sectors is made of
 pub edit_asks : (S R : ℕ) (e : Edit) (bytes : ℕ) (c : Chain) → FitsEdit S R e bytes c
@@ -122,9 +88,6 @@ edit_asks S R e bytes c f =
       omega (arith, chain_bytes_small S R c g),
       omega (arith, extend_count S c (edit_more S c.count e bytes), chain_small S R (extend S c (edit_more S c.count e bytes)) grown),
     )
-
-pub edit_small : (S R : ℕ) (e : Edit) (bytes : ℕ) (c : Chain) → FitsEdit S R e bytes c → c.count + c.hand.free ≤ most
-edit_small S R e bytes c f = chain_small S R c f.fits.fits
 
 need_covers : (S R : ℕ) (e : Edit) (bytes : ℕ) (c : Chain) → FitsEdit S R e bytes c → place_of e + bytes_of e bytes ≤ S * edit_need S c.count e bytes
 unfolding place_of edit_need
@@ -188,14 +151,13 @@ module _ (S R : ℕ) (e : Edit) (bytes : ℕ) (c : Chain) (f : FitsEdit S R e by
         = once_writable S R after after_fits once (place_of e) (bytes_of e bytes) (rw after_count edit_covers) in
         (omega (arith, after_count, chain_room S R after after_fits), rw after_count at w)
 
--- a chain in hand whose bytes are stored, by its parts
-pub edited_of : (S R : ℕ) (e : Edit) (buf : List ℕ) (c : Chain) → FitsEdit S R e (length buf) c → (need : ℕ) → need ≡ edit_need S c.count e (length buf)
-    → (n : ℕ) (image fat fats difats frees : List ℕ) (free : ℕ) (marks ids : List ℕ)
-    → chain_of n image fat fats difats frees free marks ids need ≡ fitted S c need
-    → (img : List ℕ) → img ≡ stored S c.count need image (take need ids) e buf → chain_of n img fat fats difats frees free marks ids need ≡ edited S c e buf
+-- a chain in hand whose bytes are stored
+edited_of : (S R : ℕ) (e : Edit) (buf : List ℕ) (c : Chain) → FitsEdit S R e (length buf) c → (need : ℕ) → need ≡ edit_need S c.count e (length buf)
+    → (h : Hand) (ids : List ℕ) → record { hand = h; ids = ids; count = need } ≡ fitted S c need
+    → (img : List ℕ) → img ≡ stored S c.count need h.disk.image (take need ids) e buf → with_image (record { hand = h; ids = ids; count = need }) img ≡ edited S c e buf
 unfolding with_image ids_of edit_need resize_more stored written
-edited_of S R (Write offset) buf c f need q n image fat fats difats frees free marks ids x img z =
-    ap (with_image (chain_of n image fat fats difats frees free marks ids need)) z
+edited_of S R (Write offset) buf c f need q h ids x img z =
+    ap (with_image (record { hand = h; ids = ids; count = need })) z
     ∙ ap (λ (k : Chain). with_image k (write_bytes S k.hand.disk.image (ids_of k) offset buf)) (x ∙ ap (fitted S c) q ∙ wide)
   where
     wide : fitted S c (c.count + write_more S c.count offset (length buf)) ≡ extend S c (write_more S c.count offset (length buf))
@@ -208,15 +170,23 @@ edited_of S R (Write offset) buf c f need q n image fat fats difats frees free m
         let z : write_more S c.count offset (length buf) ≡ 0 = omega arith in
         fitted_fewer S c _ g ∙ shrink_none S c _ (omega arith) ∙ sym (ap (extend S c) z ∙ extend_none S c))
         (below_or c.count (c.count + write_more S c.count offset (length buf)))
-edited_of S R (Resize len) buf c f need q n image fat fats difats frees free marks ids x img z =
+edited_of S R (Resize len) buf c f need q h ids x img z =
     ⊎_elim
     (λ (l : c.count < need).
-    let same : img ≡ image = rw (lt-ltb c.count need l) at z in
-    ap (with_image (chain_of n image fat fats difats frees free marks ids need)) same
+    let same : img ≡ h.disk.image = rw (lt-ltb c.count need l) at z in
+    ap (with_image (record { hand = h; ids = ids; count = need })) same
     ∙ x ∙ fitted_more S c need l ∙ ap (λ (k : ℕ). extend S c (k - c.count)) q ∙ sym (resized_more S c len (rw q at l)))
     (λ (g : need ≤ c.count).
-    let zeros : img ≡ zero_tail S image (take need ids) len = rw (le-ltb c.count need g) at z in
-    ap (with_image (chain_of n image fat fats difats frees free marks ids need)) zeros
+    let zeros : img ≡ zero_tail S h.disk.image (take need ids) len = rw (le-ltb c.count need g) at z in
+    ap (with_image (record { hand = h; ids = ids; count = need })) zeros
     ∙ ap (λ (k : Chain). with_image k (zero_tail S k.hand.disk.image (ids_of k) len)) (x ∙ fitted_fewer S c need g ∙ ap (shrink S c) q)
     ∙ sym (resized_fewer S c len (rw q at g)))
     (below_or c.count need)
+
+-- what is in hand then, where only the image holds other bytes
+pub edited_on : {a b d : lent.Hand} {R : ℕ} {e : Edit} (buf ids : List ℕ) {ids' : List ℕ} {count need : ℕ} → FitsEdit a.len R e (length buf) (chain_in a ids count)
+    → need ≡ edit_need a.len count e (length buf) → Fitted a b ids ids' count need
+    → SameHand b d → chain_in d ids' need ≡ with_image (chain_in b ids' need) d.image.now → d.image.now ≡ stored a.len count need b.image.now (take need ids') e buf
+    → ChainBecomes a d ids' need (edited a.len (chain_in a ids count) e buf)
+edited_on {a = a} {b = b} {d = d} {R = R} {e = e} buf ids {ids' = ids'} {count = count} {need = need} f q m s k z =
+    record { same = same_then m.same s; chain = k ∙ edited_of a.len R e buf (chain_in a ids count) f need q (hand_in b) ids' m.chain d.image.now z }

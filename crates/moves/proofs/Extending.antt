@@ -4,13 +4,16 @@ use mathlib.Core.Path.{◌≡◌, refl, ◌∙◌, sym, ap}
 use mathlib.Core.List.{List}
 use native.Mathlib.Omega.{arith}
 use lib.ListN.{length}
-use Rattle.fat.specs.Lists.{room_of}
+use Rattle.fat.specs.Lists.{most, room_of}
 use Rattle.disk.specs.Disk.{count_after}
+use Rattle.disk.specs.declared.disk.Hand as lent
 use Rattle.disk.proofs.Fitting.{count_none}
 use Rattle.hand.specs.Hand.{Chain, extend_one, extend}
 use Rattle.hand.specs.Fits.{FitsChain, FitsMore}
-use Rattle.hand.proofs.Pointing.{hand_of, long_none, long_then}
+use Rattle.hand.proofs.Holding.{same_then}
+use Rattle.hand.proofs.Pointing.{long_none, long_then}
 use Rattle.hand.proofs.Linking.{ChainLong, one_count, one_free, one_fits, one_long, one_counted, more_one}
+use Rattle.moves.specs.Held.{chain_in, ChainBecomes}
 
 -- no sector more, and one and the others
 pub extend_none : (S : ℕ) (c : Chain) → extend S c 0 ≡ c
@@ -52,52 +55,35 @@ pub extend_long : (S R m : ℕ) (c : Chain) → FitsMore S R m c → ChainLong c
 extend_long S R zero c f = rw extend_none (same_chain c)
 extend_long S R (suc m) c f = rw extend_more (chain_then (one_long f) (extend_long S R m (extend_one S c) (one_fits f)))
 
--- a chain in hand, by its parts
-abbrev pub chain_of : ℕ → List ℕ → List ℕ → List ℕ → List ℕ → List ℕ → ℕ → List ℕ → List ℕ → ℕ → Chain
-chain_of n image fat fats difats frees free marks ids count = record { hand = hand_of n image fat fats difats frees free marks; ids = ids; count = count }
+-- one sector more is behind the others
+extend_last : (S : ℕ) (c : Chain) (m : ℕ) → extend S c (suc m) ≡ extend_one S (extend S c m)
+extend_last S c zero = extend_more S c 0 ∙ extend_none S (extend_one S c) ∙ ap (extend_one S) (sym (extend_none S c))
+extend_last S c (suc m) = extend_more S c (suc m) ∙ extend_last S (extend_one S c) m ∙ ap (extend_one S) (sym (extend_more S c m))
 
--- the invariant of the loop that extends: what is left from here is the whole
-pub record Extending (S R : ℕ) (c₀ : Chain) (more j : ℕ) (c : Chain) : Type 0 where
-  pub fits : FitsMore S R (more - j) c
-  pub turns : j ≤ more
-  pub whole : extend S c₀ more ≡ extend S c (more - j)
-  pub long : ChainLong c₀ c
+-- where m + k can be taken, k can when m are
+extend_left : (S R m k : ℕ) (c : Chain) → FitsMore S R (m + k) c → FitsMore S R k (extend S c m)
+extend_left S R zero k c f = let z : 0 + k ≡ k = omega arith in rw extend_none (rw z at f)
+extend_left S R (suc m) k c f =
+    let z : suc m + k ≡ suc (m + k) = omega arith in
+    rw extend_more (extend_left S R m k (extend_one S c) (one_fits (rw z at f)))
 
-pub extending_begun : (S R more : ℕ) (c : Chain) → FitsMore S R more c → Extending S R c more 0 c
-extending_begun S R more c f =
-    let b : more - 0 ≡ more = omega arith in
-    record { fits = rw b f; turns = omega arith; whole = rw b; long = same_chain c }
+-- the count of ids stays small
+pub extend_small : (S R m : ℕ) (c : Chain) → FitsMore S R m c → c.count + m ≤ most
+extend_small S R m c f =
+    let g : FitsChain S R (extend S c m) = extend_fits S R m c f in
+    omega (arith, extend_count S c m, g.few, g.fits.disk.inside, g.fits.disk.few)
 
--- a turn of it
-module _ {S R : ℕ} {c₀ : Chain} {more j : ℕ} {c : Chain} (g : Extending S R c₀ more j c) where
-  turn_fits : j < more → FitsMore S R (suc (more - (j + 1))) c
-  turn_fits h = let m : more - j ≡ suc (more - (j + 1)) = omega (arith, h) in rw m at g.fits
+-- a turn of the loop that extends
+module _ {a b : lent.Hand} {ids ids' : List ℕ} {count more listed : ℕ} (f : FitsMore a.len (room_of a.len (length a.image.now)) more (chain_in a ids count))
+    (m : ChainBecomes a b ids' listed (extend a.len (chain_in a ids count) (listed - count))) where
+  pub turn_one : count ≤ listed → listed < count + more → FitsMore b.len (room_of b.len (length b.image.now)) 1 (chain_in b ids' listed)
+  turn_one low l =
+      let e : more ≡ listed - count + suc (count + more - listed - 1) = omega (arith, low, l) in
+      rw (m.same.len, m.same.image_long, m.chain)
+      (more_one (extend_left a.len (room_of a.len (length a.image.now)) (listed - count) (suc (count + more - listed - 1)) (chain_in a ids count) (rw e at f)))
 
-  pub extending_one : j < more → R ≡ room_of S (length c₀.hand.disk.image) → FitsMore S (room_of S (length c.hand.disk.image)) 1 c
-  extending_one h e = rw (g.long.hand.disk.image_same, ← e) (more_one (turn_fits h))
-
-  pub extending_turn : j < more → (e : Chain) → e ≡ extend_one S c → Extending S R c₀ more (j + 1) e
-  extending_turn h e s =
-      let m : more - j ≡ suc (more - (j + 1)) = omega (arith, h) in
-      record {
-        fits = rw s (one_fits (turn_fits h));
-        turns = omega (arith, h);
-        whole = rw s (g.whole ∙ ap (extend S c) m ∙ extend_more S c (more - (j + 1)));
-        long = rw s (chain_then g.long (one_long (turn_fits h)));
-      }
-
-  -- and its end
-  pub extending_over : more ≤ j → c ≡ extend S c₀ more
-  extending_over h =
-      let z : more - j ≡ 0 = omega (arith, h) in
-      sym (g.whole ∙ ap (extend S c) z ∙ extend_none S c)
-
--- a chain by its parts, its ids counted in another way
-pub at_count : {n : ℕ} {image fat fats difats frees : List ℕ} {free : ℕ} {marks ids : List ℕ} {k : ℕ} {e : Chain} (k' : ℕ) → k' ≡ k
-    → chain_of n image fat fats difats frees free marks ids k ≡ e → chain_of n image fat fats difats frees free marks ids k' ≡ e
-at_count k' q h = rw q h
-
--- how many ids it has where it was extended
-pub extended_at : (S : ℕ) (c : Chain) (m : ℕ) {n : ℕ} {image fat fats difats frees : List ℕ} {free : ℕ} {marks ids : List ℕ} {k : ℕ}
-    → chain_of n image fat fats difats frees free marks ids k ≡ extend S c m → chain_of n image fat fats difats frees free marks ids (c.count + m) ≡ extend S c m
-extended_at S c m e = at_count (c.count + m) (sym (ap (λ (x : Chain). x.count) e ∙ extend_count S c m)) e
+  pub turn_on : count ≤ listed → {d : lent.Hand} {ids'' : List ℕ} → ChainBecomes b d ids'' (listed + 1) (extend_one b.len (chain_in b ids' listed))
+      → ChainBecomes a d ids'' (listed + 1) (extend a.len (chain_in a ids count) (listed + 1 - count))
+  turn_on low q =
+      let e : listed + 1 - count ≡ suc (listed - count) = omega (arith, low) in
+      record { same = same_then m.same q.same; chain = rw (e, extend_last, sym m.chain, sym m.same.len) q.chain }

@@ -1,6 +1,6 @@
 -- The laws of a chain cut and its tail freed. Assumes nothing.
 use Prim.Native.Nat.{ℕ, ◌+◌, ◌-◌, ◌≤◌, ◌<◌}
-use mathlib.Core.Path.{◌≡◌, refl, ◌∙◌, ap}
+use mathlib.Core.Path.{◌≡◌, refl, ◌∙◌}
 use mathlib.Core.List.{List}
 use mathlib.Core.Logic.{⊎_elim}
 use native.Mathlib.Omega.{arith}
@@ -13,10 +13,9 @@ use Rattle.alloc.specs.Opening.{padded}
 use Rattle.hand.specs.Hand.{Hand, Chain, free_run}
 use Rattle.hand.specs.Fits.{FitsHand, FitsFrees, FitsLast, FitsChain}
 use Rattle.moves.specs.Change.{cut, shrink, ids_of, FitsShrink}
-use Rattle.hand.proofs.Pointing.{hand_of, long_none, long_then}
+use Rattle.hand.proofs.Pointing.{long_none, long_then}
 use Rattle.hand.proofs.Freeing.{free_run_count, free_run_sectors, free_run_long, chain_frees, chain_freed}
 use Rattle.hand.proofs.Linking.{ChainLong, last_fits, linked_fits, linked_counts, linked_long}
-use Rattle.moves.proofs.Extending.{chain_of}
 
 -- a list that is zero from place m on: it is as long, and what stands before m stays
 pub padded_long : (xs : List ℕ) (m : ℕ) → m ≤ length xs → length (padded (take m xs) (length xs)) ≡ length xs
@@ -147,30 +146,3 @@ module _ (S R m : ℕ) (c : Chain) (f : FitsShrink S R m c) where
       }))
       (λ (g : c.count ≤ m). rw (shrink_none S c m g) (record { hand = long_none c.hand; ids_same = refl }))
       (below_or m c.count)
-
--- what the code does, by its parts
-pub shrunk_none : (S R n free : ℕ) (image fat fats frees marks ids : List ℕ) (count m : ℕ) → count ≤ m
-    → (d : List ℕ) × FitsShrink S R m (chain_of n image fat fats d frees free marks ids count) → (difats : List ℕ)
-    → chain_of n image fat fats difats frees (free + (count - m)) marks ids m ≡ shrink S (chain_of n image fat fats difats frees free marks ids count) m
-shrunk_none S R n free image fat fats frees marks ids count m h p difats =
-    let e : count ≡ m = omega (arith, p.1.within) in
-    let z : free + (count - m) ≡ free = omega arith in
-    rw (shrink_none S (chain_of n image fat fats difats frees free marks ids count) m h, z, e)
-
-pub shrunk_frees : (S R R' n free : ℕ) (image fat fats frees marks ids : List ℕ) (count m : ℕ) (image' fat' marks' : List ℕ) → R' ≡ R
-    → (d : List ℕ) × FitsShrink S R m (chain_of n image fat fats d frees free marks ids count)
-    → ((difats fs : List ℕ) (k : ℕ) → hand_of n image' fat' fats difats fs k marks' ≡ cut S (hand_of n image fat fats difats fs k marks) ids m)
-    → (d : List ℕ) × FitsFrees S R' m (count - m) ids (hand_of n image' fat' fats d frees free marks')
-shrunk_frees S R R' n free image fat fats frees marks ids count m image' fat' marks' r p e =
-    (p.0, rw (r, e p.0 frees free) (shrink_frees S R m (chain_of n image fat fats p.0 frees free marks ids count) p.1))
-
-pub shrunk_some : (S n free : ℕ) (image fat fats frees marks ids : List ℕ) (count m : ℕ) (image' fat' marks' image'' fat'' frees'' marks'' ids'' : List ℕ) → m < count
-    → ((difats fs : List ℕ) (k : ℕ) → hand_of n image' fat' fats difats fs k marks' ≡ cut S (hand_of n image fat fats difats fs k marks) ids m)
-    → ((difats : List ℕ) → hand_of n image'' fat'' fats difats frees'' (free + (count - m)) marks'' ≡ free_run S (hand_of n image' fat' fats difats frees free marks') ids m (count - m))
-    → ids'' ≡ padded (take m ids) (length ids) → (difats : List ℕ)
-    → chain_of n image'' fat'' fats difats frees'' (free + (count - m)) marks'' ids'' m
-    ≡ shrink S (chain_of n image fat fats difats frees free marks ids count) m
-shrunk_some S n free image fat fats frees marks ids count m image' fat' marks' image'' fat'' frees'' marks'' ids'' h e r z difats =
-    rw (shrink_some S (chain_of n image fat fats difats frees free marks ids count) m h, z)
-    (ap (λ (k : Hand). record { hand = k; ids = padded (take m ids) (length ids); count = m })
-    (r difats ∙ ap (λ (k : Hand). free_run S k ids m (count - m)) (e difats frees free)))

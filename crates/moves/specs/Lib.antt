@@ -1,1 +1,2 @@
 pub mod Change
+pub mod Held

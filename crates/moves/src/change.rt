@@ -1,73 +1,42 @@
 // What a change makes of a listed chain (document 01, Write and Resize). Room is known before, so nothing fails halfway.
-ghost use Rattle.std.specs.Prelude.{◌≡◌, List, ℕ, ◌+◌, ◌-◌, ◌*◌, ◌≤◌, ◌<◌, length, take};
+ghost use Rattle.std.specs.Prelude.{◌≡◌, ◌+◌, ◌*◌, ◌≤◌, ◌<◌, length, take};
 ghost use Rattle.alloc.specs.Opening.{padded};
 ghost use Rattle.fat.specs.Lists.{room_of};
 ghost use Rattle.stores.specs.Stores.{Writable};
+ghost use Rattle.moves.specs.Held.{chain_in, ChainBecomes};
 ghost use Rattle.moves.specs.Change.{shrink as shrunk, seek_of, place_of, bytes_of, edit_more, edit_need, stored, edited, FitsShrink, FitsEdit};
 
 use crate::extend::extend_by;
+use disk::disk::Hand;
 use hand::{free_run, link_last};
 use room::{sectors_for, sectors_over, sectors_past};
 use stores::{write as write_bytes, zero_tail};
 
 // What is asked of a chain (document 01, Write and Resize): a buffer's bytes from an offset on, or a new length.
-#[derive(Clone, Copy)]
+#[derive(Clone, Copy, Debug, PartialEq, Eq)]
 pub enum Edit {
     Write(u64),
     Resize(u64),
-}
-
-// What a change leaves: how many sectors there are, how many of them are FREE, and how many the chain has.
-#[derive(Clone, Copy)]
-pub struct Changed {
-    pub sectors: usize,
-    pub free: usize,
-    pub ids: usize,
 }
 
 // Zeros a list from a place on.
 pub fn zero_from(xs: &mut [u32], from: usize)
     ensures { xs.new ≡ padded (take from xs.old) (length xs.old) }
 {
-    if from < xs.len() {
-        words::fill32(&mut xs[from..], 0);
-    }
+    let kept = from.min(xs.len());
+    xs[kept..].fill(0);
 }
 
-// Ends the chain of count ids behind its first m, and frees the rest in chain order.
-fn shrink(
-    image: &mut [u8],
-    s: usize,
-    n: usize,
-    free: usize,
-    fat: &mut [u32],
-    fats: &[u32],
-    frees: &mut [u32],
-    marks: &mut [u8],
-    ids: &mut [u32],
-    count: usize,
-    m: usize,
-)
-    requires { (difats : List ℕ) × FitsShrink s (room_of s (length image.old)) m (record { hand = record { disk = record { image = image.old; fat = fat.old; fats = fats.now; difats = difats; sectors = n }; frees = frees.old; free = free; marks = marks.old }; ids = ids.old; count = count }) }
-    ensures { (difats : List ℕ) → record { hand = record { disk = record { image = image.new; fat = fat.new; fats = fats.now; difats = difats; sectors = n }; frees = frees.new; free = (free + (count - m)); marks = marks.new }; ids = ids.new; count = m } ≡ shrunk s (record { hand = record { disk = record { image = image.old; fat = fat.old; fats = fats.now; difats = difats; sectors = n }; frees = frees.old; free = free; marks = marks.old }; ids = ids.old; count = count }) m }
+// Ends the chain of count ids behind its first m, if it has as many, and frees the rest in chain order.
+fn shrink(hand: &mut Hand<'_, '_>, ids: &mut [u32], count: usize, m: usize)
+    requires { FitsShrink hand.old.len (room_of hand.old.len (length hand.old.image.now)) m (chain_in hand.old ids.old count) }
+    ensures { ChainBecomes hand.old hand.new ids.new m (shrunk hand.old.len (chain_in hand.old ids.old count) m) }
 {
     if count <= m {
         return;
     }
-    link_last(image, s, n, fat, fats, marks, ids, m, consts::END_OF_CHAIN);
-    free_run(
-        image,
-        s,
-        n,
-        free,
-        fat,
-        fats,
-        frees,
-        marks,
-        ids,
-        m,
-        count - m,
-    );
+    link_last(hand, ids, m, consts::END_OF_CHAIN);
+    free_run(hand, ids, m, count - m);
     zero_from(ids, m);
 }
 
@@ -108,53 +77,25 @@ fn store(image: &mut [u8], s: usize, ids: &[u32], had: usize, count: usize, edit
     }
 }
 
-// Makes an edit of the chain of count ids: sectors are taken for what it asks for more, or the tail that a resize leaves is freed; then its bytes are stored.
+// Makes an edit of the chain of count ids, and returns how many the chain has then: sectors are taken for what it asks for more, or
+// the tail that a resize leaves is freed; then its bytes are stored.
 pub fn change(
-    image: &mut [u8],
-    s: usize,
-    n: usize,
-    free: usize,
-    fat: &mut [u32],
-    fats: &mut [u32],
-    difats: &mut [u32],
-    frees: &mut [u32],
-    marks: &mut [u8],
+    hand: &mut Hand<'_, '_>,
     ids: &mut [u32],
     count: usize,
     edit: Edit,
     buf: &[u8],
-) -> Changed
-    requires { FitsEdit s (room_of s (length image.old)) edit (length buf.now) (record { hand = record { disk = record { image = image.old; fat = fat.old; fats = fats.old; difats = difats.old; sectors = n }; frees = frees.old; free = free; marks = marks.old }; ids = ids.old; count = count }) }
-    ensures { record { hand = record { disk = record { image = image.new; fat = fat.new; fats = fats.new; difats = difats.new; sectors = result.sectors }; frees = frees.new; free = result.free; marks = marks.new }; ids = ids.new; count = result.ids } ≡ edited s (record { hand = record { disk = record { image = image.old; fat = fat.old; fats = fats.old; difats = difats.old; sectors = n }; frees = frees.old; free = free; marks = marks.old }; ids = ids.old; count = count }) edit buf.now }
+) -> usize
+    requires { FitsEdit hand.old.len (room_of hand.old.len (length hand.old.image.now)) edit (length buf.now) (chain_in hand.old ids.old count) }
+    ensures { ChainBecomes hand.old hand.new ids.new result (edited hand.old.len (chain_in hand.old ids.old count) edit buf.now) }
 {
+    let s = hand.len;
     let need = need_of(s, count, edit, buf.len());
     if count < need {
-        let taken = extend_by(
-            image,
-            s,
-            n,
-            free,
-            fat,
-            fats,
-            difats,
-            frees,
-            marks,
-            ids,
-            count,
-            need - count,
-        );
-        store(image, s, ids, count, need, edit, buf);
-        return Changed {
-            sectors: taken.sectors,
-            free: taken.free,
-            ids: need,
-        };
+        extend_by(hand, ids, count, need - count);
+    } else {
+        shrink(hand, ids, count, need);
     }
-    shrink(image, s, n, free, fat, fats, frees, marks, ids, count, need);
-    store(image, s, ids, count, need, edit, buf);
-    Changed {
-        sectors: n,
-        free: free + (count - need),
-        ids: need,
-    }
+    store(hand.image, s, ids, count, need, edit, buf);
+    need
 }

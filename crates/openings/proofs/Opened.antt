@@ -1,17 +1,17 @@
 -- From what the library says of an opening, and of a chain, to its agreement with a record. Assumes nothing.
 use Prim.Native.Nat.{ℕ, ◌+◌, ◌-◌, ◌*◌, ◌≤◌}
 use mathlib.Core.Path.{◌≡◌, refl, ◌∙◌, sym, ap}
-use mathlib.Core.Bool.{true}
 use mathlib.Core.List.{List}
 use native.Mathlib.Omega.{arith}
 use borrow.Rule.Slice.PartMut.{put_mid}
 use lib.ListN.{length, take, replicate, length-replicate}
-use Rattle.lists.specs.Lists.{part, same_list, splice}
-use Rattle.lists.proofs.Splice.{same_list_true, length_part, length_splice, put_mid_splice}
+use Rattle.lists.specs.Lists.{part}
+use Rattle.lists.proofs.Splice.{length_part, length_splice, put_mid_splice}
 use Rattle.header.specs.declared.Validation.{Validation}
 use Rattle.alloc.specs.Opening.{Tables, shortest, open_no}
 use Rattle.alloc.specs.Opened.{tables_left}
-use Rattle.cfb.specs.Face.{number_of, tables_of, state_of, Opens}
+use Rattle.consts.specs.Refusals.{ends_with}
+use Rattle.cfb.specs.Face.{tables_of, state_of, Opens}
 use Rattle.cfb.specs.Calls.{chain_no, told_by, ChainOpens}
 use Rattle.cfb.specs.declared.State.{State}
 use Rattle.cfb.specs.declared.Opened.{Opened}
@@ -20,12 +20,7 @@ use Rattle.cfb.proofs.Facing.{verdict_number}
 use Rattle.records.specs.Records.{length_in, mode_in, numbers_in}
 use Rattle.openings.specs.Openings.{place_in, entries_in, sector_bytes, image_in, lent_tables, tables_in, start_in, lent_ids, ToldAs, ChainedAs, Says, OpenedAs, ImageAgrees}
 
--- entries that are copied over a sector of FREE
-pub entries_put : (b : List ℕ) {n : ℕ} {free out : List ℕ} → n ≡ 512 → free ≡ replicate n 255 → out ≡ splice free 0 (part b 520 96) → out ≡ entries_in b
-unfolding entries_in
-entries_put b l f e = e ∙ ap (λ (x : List ℕ). splice x 0 (part b 520 96)) (f ∙ ap (λ (k : ℕ). replicate k 255) l)
-
--- they fill a sector
+-- the entries and FREE behind them fill a sector
 entries_long : (b : List ℕ) → length b ≡ 1024 → length (entries_in b) ≡ 512
 unfolding entries_in
 entries_long b l =
@@ -34,23 +29,20 @@ entries_long b l =
     length_splice (replicate 512 255) 0 (part b 520 96) (omega arith) ∙ r
 
 -- a header over zeros, and the entries over their sector
-pub sectors_put : (b : List ℕ) (place : ℕ) {n : ℕ} {zeros headed sector : List ℕ} → length b ≡ 1024 → place ≡ place_in b → n ≡ 12800 → zeros ≡ replicate n 0
-    → headed ≡ splice zeros 0 (part b 8 512) → sector ≡ entries_in b
-    → put_mid (512 * (place + 1)) (512 * (place + 1) + 512 - 512 * (place + 1)) headed sector ≡ sector_bytes b
+pub sectors_put : (b : List ℕ) (place : ℕ) {head headed sector : List ℕ} → length b ≡ 1024 → place ≡ place_in b → headed ≡ put_mid 0 512 (replicate 12800 0) head → head ≡ part b 8 512
+    → sector ≡ entries_in b → put_mid (512 * (place + 1)) (512 * (place + 1) + 512 - 512 * (place + 1)) headed sector ≡ sector_bytes b
 unfolding sector_bytes
-sectors_put b place {headed = headed} l p i z h s =
-    let k : 512 * (place + 1) + 512 - 512 * (place + 1) ≡ 512 = omega arith in
-    let top : headed ≡ splice (replicate 12800 0) 0 (part b 8 512) = h ∙ ap (λ (x : List ℕ). splice x 0 (part b 8 512)) (z ∙ ap (λ (m : ℕ). replicate m 0) i) in
-    rw (k, s, top, ← p) (put_mid_splice (512 * (place + 1)) 512 _ (entries_in b) (entries_long b l))
+sectors_put b place {head = head} l p z h s =
+    let header : length head ≡ 512 = ap length h ∙ length_part b 8 512 (omega arith) in
+    let sector : length (entries_in b) ≡ 512 * (place + 1) + 512 - 512 * (place + 1) = omega (arith, entries_long b l) in
+    rw (z, put_mid_splice 0 512 (replicate 12800 0) head header, h, s, ← p) (put_mid_splice (512 * (place + 1)) _ _ (entries_in b) sector)
 
 -- five tables that were compared
 pub tables_same_lem : (b : List ℕ) {fat fats difats frees marks : List ℕ} → fat ≡ numbers_in (part b 616 96) 24 → frees ≡ numbers_in (part b 712 96) 24 → fats ≡ numbers_in (part b 832 96) 24
-    → difats ≡ numbers_in (part b 928 96) 24 → same_list marks (part b 808 24) ≡ true
+    → difats ≡ numbers_in (part b 928 96) 24 → marks ≡ part b 808 24
     → ◌≡◌ {A = Tables} (record { fat = fat; fats = fats; difats = difats; frees = frees; marks = marks }) (tables_in b)
 unfolding tables_in
-tables_same_lem b {marks = marks} f e s d m =
-    let k : marks ≡ part b 808 24 = same_list_true _ _ m in
-    λ i. record { fat = f i; fats = s i; difats = d i; frees = e i; marks = k i }
+tables_same_lem b f e s d m = λ i. record { fat = f i; fats = s i; difats = d i; frees = e i; marks = m i }
 
 -- a call that told, and left as id list, what the record has
 pub chain_told : (b : List ℕ) {img : List ℕ} {s : State} {t t' : Tables} {start : ℕ} {r : Called} {img' ids' : List ℕ} → start ≡ start_in b → ChainOpens s img t lent_ids start r img' t' ids'
@@ -63,7 +55,7 @@ chain_told b {img} {s = s} {t = t} {t' = t'} {r = r} {img' = img'} {ids' = ids'}
 
 -- an opening that gave what the record says
 pub opening_said : (b img : List ℕ) {m : Validation} {r : Opened} {img' : List ℕ} {t' : Tables} {no : ℕ} → m ≡ mode_in b → Opens m img (length img) lent_tables r img' t'
-    → no ≡ number_of r.verdict → Says b img no r.state t' → OpenedAs b img
+    → no ≡ ends_with r.verdict → Says b img no r.state t' → OpenedAs b img
 opening_said b img {r = r} {img' = img'} {t' = t'} {no = k} e says n given =
     let right : Opens (mode_in b) img (length img) lent_tables r img' t' = rw (← e) says in
     let ended : k ≡ open_no (mode_in b) img (length img) (shortest lent_tables) = n ∙ verdict_number r.verdict _ _ _ right.verdict in

@@ -1,3 +1,4 @@
+pub mod Folding
 pub mod Freeing
 pub mod Pointing
 pub mod Testing

@@ -1,15 +1,18 @@
 -- The laws of entries that point: how many point at each sector, and what these numbers tell of repeats, of marks and of FREE sectors. Assumes nothing.
-use Prim.Native.Nat.{ℕ, zero, suc, ◌+◌, ◌≤◌, ◌<◌}
+use Prim.Native.Nat.{ℕ, zero, suc, ◌+◌, ◌*◌, ◌/◌, ◌≤◌, ◌<◌}
 use mathlib.Core.Path.{◌≡◌, refl, sym, ◌∙◌, ap}
 use mathlib.Core.Bool.{Bool, true, false, not, ◌&&◌, ◌||◌}
 use mathlib.Core.List.{List, [], ◌∷◌}
 use mathlib.Core.Logic.{◌↔◌, ⊎_elim, ◌≢◌}
 use native.Mathlib.Omega.{arith}
 use native.Mathlib.Numerals.{add-one}
+use native.Mathlib.Nat.{add-zero}
 use borrow.Author.Tests.{eq-eqb, ne_eqb, eqb-true, eqb-false, le-leb, lt-leb, leb-true, lt-ltb, le-ltb, not-true}
 use lib.Dec.{eqb, leb}
-use lib.ListN.{length, get_or, set, take, replicate, length-set, get_or-replicate}
-use lib.Seq.{get_or-set_same, get_or-set_other, take_all}
+use lib.ListN.{length, get_or, set, take, drop, replicate, length-set, length-drop, get_or-replicate}
+use lib.Seq.{get_or-set_same, get_or-set_other, get_or-take, get_or-drop, length-take-le, take_all}
+use Rattle.std.specs.List.{fold}
+use Rattle.std.specs.Simd.{first_chunks}
 use Rattle.lists.specs.Lists.{choose, both, either, every, same_list, Below}
 use Rattle.lists.proofs.Cases.{same_or, below_or, true_or, not_both, both_true, both_left, both_right, same_test, either_cases, either_right, every_at, every_of, alike, unlike}
 use Rattle.lists.proofs.Tab.{get_or_tab, is_tab}
@@ -17,7 +20,8 @@ use Rattle.consts.specs.Consts.{invalid_sector, free_sector}
 use Rattle.judge.specs.Judge.{pointed, marks_of, none_dangles}
 use Rattle.judge.proofs.Judging.{pointed_by, pointer_of}
 use Rattle.points.specs.Frees.{occurs}
-use Rattle.points.specs.Parts.{pointers_of, pointer_counted, Counting, sector_right, sectors_right, points_once, points_same}
+use Rattle.points.specs.Parts.{pointers_of, pointer_counted, sector_right, sectors_right, points_once, points_same}
+use Rattle.points.proofs.Folding.{chunk_at}
 use Rattle.points.proofs.Testing.{same_tab}
 use Rattle.points.proofs.Freeing.{occurs_none, occurs_once, occurs_unique}
 
@@ -44,6 +48,12 @@ occurs_few x (y ∷ ys) (suc j) h = at (eqb x y) (occurs_few x ys j (omega arith
     at true l = omega arith
     at false l = omega arith
 
+-- the entries before place j are counted, by sector; there are few enough that each count fits 32 bits
+pub record Counting (fat counts : List ℕ) (j : ℕ) : Type 0 where
+  pub few : length fat ≤ 65536
+  pub long : length counts ≡ length fat
+  pub each : (i : ℕ) → i < length fat → get_or counts i 0 ≡ occurs i (take j fat)
+
 -- the counts of the entries before j: none; all
 pub counting_none : (fat counts : List ℕ) (k : ℕ) → length fat ≤ 65536 → counts ≡ replicate k 0 → k ≡ length fat → length counts ≡ length fat → Counting fat counts 0
 unfolding occurs
@@ -53,24 +63,14 @@ pub counting_all : (fat counts : List ℕ) (j : ℕ) → length fat ≤ j → Co
 unfolding pointers_of
 counting_all fat counts j e c = is_tab counts (λ i. occurs i fat) (length fat) c.long (λ i h. c.each i h ∙ ap (occurs i) (take_all j fat e))
 
--- no count passes the number of entries
-pub counting_below : (fat counts : List ℕ) (j : ℕ) → j < length fat → Counting fat counts j → Below 65536 counts
-counting_below fat counts j l c = record { each = λ i h. omega (arith, c.few, c.each i (omega (arith, c.long)), occurs_few i fat j (omega arith)) }
-
 -- one entry more is counted: it points at a sector, or at none
-counted_in : (e : ℕ) (counts : List ℕ) → e < length counts → pointer_counted e counts ≡ set counts e (get_or counts e 0 + 1)
+pub counted_in : (e : ℕ) (counts : List ℕ) → e < length counts → pointer_counted e counts ≡ set counts e (get_or counts e 0 + 1)
 unfolding pointer_counted
 counted_in e counts h = rw (lt-ltb e (length counts) h)
 
-counted_out : (e : ℕ) (counts : List ℕ) → length counts ≤ e → pointer_counted e counts ≡ counts
+pub counted_out : (e : ℕ) (counts : List ℕ) → length counts ≤ e → pointer_counted e counts ≡ counts
 unfolding pointer_counted
 counted_out e counts h = rw (le-ltb e (length counts) h)
-
-pub counted_stored : (e at v : ℕ) (counts next : List ℕ) → at ≡ e → at < length counts → v ≡ get_or counts at 0 + 1 → next ≡ set counts at v → next ≡ pointer_counted e counts
-counted_stored e at v counts next s h k n = n ∙ ap (set counts at) k ∙ sym (counted_in at counts h) ∙ ap (λ (x : ℕ). pointer_counted x counts) s
-
-pub counted_left : (e at : ℕ) (counts next : List ℕ) → at ≡ e → length counts ≤ at → next ≡ counts → next ≡ pointer_counted e counts
-counted_left e at counts next s h n = n ∙ sym (counted_out e counts (omega arith))
 
 counted_at : (e : ℕ) (counts : List ℕ) (i : ℕ) → i < length counts → get_or (pointer_counted e counts) i 0 ≡ choose (eqb i e) (get_or counts i 0 + 1) (get_or counts i 0)
 counted_at e counts i h =
@@ -102,6 +102,43 @@ counting_more fat counts next j k e h m s n c =
     added : (b : Bool) (x y : ℕ) → x ≡ y → choose b (x + 1) x ≡ choose b (suc y) y
     added true x y q = omega arith
     added false x y q = q
+
+-- no count passes the number of entries
+pub counting_below : (m : ℕ) (fat counts : List ℕ) (j : ℕ) → j < m → j ≤ length fat → Counting fat counts j → Below m counts
+counting_below m fat counts j l h c = record { each = λ i b. omega (arith, c.each i (omega (arith, c.long)), occurs_few i fat j h) }
+
+-- a count grows by one at most
+pub counted_below : (k m e : ℕ) (counts next : List ℕ) → k < m → next ≡ pointer_counted e counts → Below k counts → Below m next
+counted_below k m e counts next l n b = record { each = λ i h. at i (omega (arith, ap length n, length_counted e counts)) }
+  where
+    step : (t : Bool) (x : ℕ) → x < k → choose t (x + 1) x < m
+    step true x h = omega arith
+    step false x h = omega arith
+
+    at : (i : ℕ) → i < length counts → get_or next i 0 < m
+    at i h = rw (n, counted_at e counts i h) (step (eqb i e) (get_or counts i 0) (b.each i h))
+
+-- the entries of a list that the FAT goes on with are counted
+pub counting_list : (fat es counts : List ℕ) (j : ℕ) → j + length es ≤ length fat → ((k : ℕ) → k < length es → get_or es k 0 ≡ get_or fat (j + k) 0)
+    → Counting fat counts j → Counting fat (fold (λ xs e. pointer_counted e xs) counts es) (j + length es)
+counting_list fat [] counts j h same c = rw (add-zero j) c
+counting_list fat (e ∷ es) counts j h same c =
+    let first : e ≡ get_or fat j 0 = rw add-zero at (same 0 (omega arith)) in
+    let next : (j + 1) + length es ≡ j + suc (length es) = omega arith in
+    rw (← next)
+    (counting_list fat es (pointer_counted e counts) (j + 1) (omega arith)
+    (λ k l. let at : j + suc k ≡ (j + 1) + k = omega arith in rw at at (same (suc k) (omega arith)))
+    (counting_more fat counts (pointer_counted e counts) j (j + 1) e (omega arith) refl first refl c))
+
+-- and so are those of the four at place i
+pub counting_fours : (fat counts four : List ℕ) (i : ℕ) → i < length fat / 4 → four ≡ get_or (first_chunks 4 (length fat / 4) fat) i []
+    → Counting fat counts (4 * i) → Counting fat (fold (λ xs e. pointer_counted e xs) counts four) (4 * (i + 1))
+counting_fours fat counts four i h e c =
+    let from : i * 4 ≡ 4 * i = omega arith in
+    let is : four ≡ take 4 (drop (4 * i) fat) = e ∙ chunk_at 4 (length fat / 4) i fat h ∙ ap (λ (j : ℕ). take 4 (drop j fat)) from in
+    let long : length four ≡ 4 = ap length is ∙ length-take-le 4 (drop (4 * i) fat) (omega (arith, length-drop (4 * i) fat)) in
+    let next : 4 * i + length four ≡ 4 * (i + 1) = omega arith in
+    rw (← next) (counting_list fat four counts (4 * i) (omega arith) (λ k l. rw is (get_or-take 4 (drop (4 * i) fat) k 0 (omega arith) ∙ get_or-drop (4 * i) fat k 0)) c)
 
 -- no entry is reserved, and no two point at one sector
 pub record Once (fat : List ℕ) : Type 0 where

@@ -1,5 +1,5 @@
 -- What the functions that test entries, marks and a free list ask for and say. Assumes nothing.
-use Rattle.std.specs.Prelude.{ℕ, ◌+◌, ◌≤◌, ◌<◌, ◌≡◌, Bool, not, List, eqb, leb, ltb, length, get_or, set, take}
+use Rattle.std.specs.Prelude.{ℕ, ◌+◌, ◌≤◌, ◌≡◌, Bool, not, List, eqb, leb, ltb, length, get_or, set}
 use Rattle.lists.specs.Lists.{choose, both, either, every, tab, same_list}
 use Rattle.consts.specs.Consts.{invalid_sector, free_sector}
 use Rattle.judge.specs.Judge.{pointed, marks_of, none_dangles, frees_of}
@@ -26,12 +26,6 @@ pointers_of fat = tab (λ i. occurs i fat) (length fat)
 -- one entry more is counted, if it points at a sector
 unfoldable pub pointer_counted : ℕ → List ℕ → List ℕ
 pointer_counted e counts = choose (ltb e (length counts)) (set counts e (get_or counts e 0 + 1)) counts
-
--- the entries before place j are counted, by sector; there are few enough that each count fits 32 bits
-pub record Counting (fat counts : List ℕ) (j : ℕ) : Type 0 where
-  pub few : length fat ≤ 65536
-  pub long : length counts ≡ length fat
-  pub each : (i : ℕ) → i < length fat → get_or counts i 0 ≡ occurs i (take j fat)
 
 -- document 01, 16 to 19: a sector's entry, the count of the entries that point at it, and its mark. The mark is the count, which is at most 1; the entry is not reserved; if it is FREE the count is 0
 unfoldable pub sector_right : ℕ → ℕ → ℕ → Bool

@@ -4,7 +4,7 @@ ghost use Rattle.fat.specs.Lists.{all_below};
 ghost use Rattle.judge.specs.Judge.{frees_of};
 ghost use Rattle.points.specs.Parts.{ScratchLent, frees_same};
 
-use fat::places::{different, index};
+use fat::places::different;
 use judge::marks::all_marked;
 
 // How many entries are FREE. The count has 32 bits, as the entries have, so that the vectorized loop widens nothing.
@@ -12,28 +12,18 @@ pub fn count_free(fat: &[u32]) -> usize
     requires { length fat.now ≤ 65536 }
     ensures { result ≡ length (frees_of (length fat.now) fat.now) }
 {
-    let mut count: u32 = 0;
-    let mut i = 0;
-    while i < fat.len() {
-        if fat[i] == consts::FREE_SECTOR {
-            count += 1;
-        }
-        i += 1;
-    }
-    index(count)
+    let count: u32 = fat
+        .iter()
+        .map(|e| u32::from(*e == consts::FREE_SECTOR))
+        .sum();
+    count as usize
 }
 
 // Whether every number is below the limit.
 pub fn all_below(xs: &[u32], limit: u32) -> bool
     ensures { result ≡ all_below limit xs.now }
 {
-    let mut below = true;
-    let mut i = 0;
-    while i < xs.len() {
-        below = below & (xs[i] < limit);
-        i += 1;
-    }
-    below
+    xs.iter().fold(true, |below, x| below & (*x < limit))
 }
 
 // Whether the list holds the FREE sectors and no other number, each once. A list of FREE sectors, none twice, as many as the FAT has, contains all of them. The scratch may hold anything before; what it holds after is not said.

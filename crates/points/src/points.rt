@@ -1,48 +1,29 @@
 // Whether the entries of a FAT point as they must, and the marks say where (document 01, refusals 16 to 18): by counting the entries that point at each sector.
-ghost use Rattle.std.specs.Prelude.{◌≡◌, ◌+◌, ◌≤◌, length};
+ghost use Rattle.std.specs.Prelude.{◌≡◌, fold, length};
 ghost use Rattle.lists.specs.Lists.{Below};
-ghost use Rattle.points.specs.Parts.{Counting, CountsLent, MarksLent, pointer_counted, pointers_of, points_same, sector_right, sectors_right};
-
-use fat::places::index;
+ghost use Rattle.points.specs.Parts.{CountsLent, MarksLent, pointer_counted, pointers_of, points_same, sector_right, sectors_right};
 
 // Adds one to the count of the sector that an entry points at, if it points at a sector.
 pub fn count_pointer(entry: u32, counts: &mut [u32])
     requires { Below 65536 counts.old }
     ensures { counts.new ≡ pointer_counted entry counts.old }
 {
-    let i = index(entry);
+    let i = entry as usize;
     if i < counts.len() {
-        counts[i] = counts[i] + 1;
+        counts[i] += 1;
     }
 }
 
-// Counts the four entries from j on. All four are read before a count is stored, so that none of these reads waits for the store of one of these counts.
-pub fn count_four(fat: &[u32], j: usize, counts: &mut [u32])
-    requires counting { Counting fat.now counts.old j }
-    requires j_in_bounds { j + 4 ≤ length fat.now }
-    ensures { Counting fat.now counts.new (j + 4) }
+// Counts four entries. All four are read before a count is stored, so that none of these reads waits for the store of one of these counts.
+pub fn count_four(four: &[u32; 4], counts: &mut [u32])
+    requires { Below 65533 counts.old }
+    ensures { counts.new ≡ fold (λ xs e. pointer_counted e xs) counts.old four.now }
 {
-    let a = fat[j];
-    let b = fat[j + 1];
-    let c = fat[j + 2];
-    let d = fat[j + 3];
+    let [a, b, c, d] = *four;
     count_pointer(a, counts);
     count_pointer(b, counts);
     count_pointer(c, counts);
     count_pointer(d, counts);
-}
-
-// Counts the entries from a place on, one by one.
-pub fn count_rest(fat: &[u32], from: usize, counts: &mut [u32])
-    requires counting { Counting fat.now counts.old from }
-    requires from_in_bounds { from ≤ length fat.now }
-    ensures { counts.new ≡ pointers_of fat.now }
-{
-    let mut j = from;
-    while j < fat.len() {
-        count_pointer(fat[j], counts);
-        j += 1;
-    }
 }
 
 // Stores in each count how many entries point at its sector. What the counts held before is written over.
@@ -50,14 +31,14 @@ pub fn count_pointers(fat: &[u32], counts: &mut [u32])
     requires { CountsLent (length fat.now) (length counts.old) }
     ensures { counts.new ≡ pointers_of fat.now }
 {
-    words::fill32(counts, 0);
-    let fours = fat.len() / 4;
-    let mut q = 0;
-    while q < fours {
-        count_four(fat, 4 * q, counts);
-        q += 1;
+    counts.fill(0);
+    let (fours, rest) = fat.as_chunks::<4>();
+    for four in fours {
+        count_four(four, counts);
     }
-    count_rest(fat, 4 * fours, counts);
+    for entry in rest {
+        count_pointer(*entry, counts);
+    }
 }
 
 // Whether the mark is the count and at most 1, the entry is not 0xfffffffb, and it is not FREE if an entry points at the sector (refusals 16 to 19).
@@ -75,13 +56,11 @@ pub fn sectors_right(fat: &[u32], counts: &[u32], marks: &[u8]) -> bool
     requires marks_len { length marks.now ≡ length fat.now }
     ensures { result ≡ sectors_right fat.now counts.now marks.now }
 {
-    let mut right = true;
-    let mut i = 0;
-    while i < fat.len() {
-        right = right & sector_right(fat[i], counts[i], marks[i]);
-        i += 1;
-    }
-    right
+    // kept: by places, since a zip of three slices does not run on vectors
+    (0..fat.len()).fold(
+        true,
+        |right, i| right & sector_right(fat[i], counts[i], marks[i]),
+    )
 }
 
 // Whether the entries point as they must, and the marks say where. Leaves in each count how many entries point at its sector.

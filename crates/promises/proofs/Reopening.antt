@@ -210,9 +210,10 @@ module _ (h : Hand) where
     long = omega (arith, room, f.disk.fat_long, f.disk.fats_long, f.disk.difats_long, f.frees_long, f.marks_long)
 
     first : refusal (first_rows Strict img used (shortest (tables_hand h))) ≡ 0
+    unfolding sectors_in
     first =
-        sym (early_passed Strict img used (shortest (tables_hand h)) (omega (arith, add-mul n 1 S, one-mul S, f.disk.header)) fits read (mul-mod_left (n + 1) S)
-        (omega (arith, counted, f.disk.inside, f.disk.few)) long)
+        sym (early_passed Strict img used (shortest (tables_hand h)) (omega (arith, add-mul n 1 S, one-mul S, f.disk.header)) fits read S refl (mul-mod_left (n + 1) S)
+        (omega (arith, counted, f.disk.inside, f.disk.few)) (header_of img) refl long).number
 
     frees_long : length (take h.free h.frees) ≡ h.free
     frees_long = length-take-le h.free h.frees (omega (arith, f.free_few, f.disk.inside, f.frees_long))

@@ -3,14 +3,13 @@ use Prim.Native.Nat.{ℕ, ◌+◌, ◌≤◌, ◌<◌}
 use mathlib.Core.Path.{◌≡◌, refl, ap}
 use mathlib.Core.Bool.{Bool, true, false}
 use mathlib.Core.List.{List}
-use borrow.Author.Tests.{le-leb, lt-leb, lt-ltb, le-ltb}
+use borrow.Author.Tests.{le-leb, lt-leb, lt-ltb}
 use lib.Dec.{leb}
 use lib.ListN.{length}
 use Rattle.lists.specs.Lists.{choose}
 use Rattle.lists.proofs.Cases.{both_true, both_false_left, both_false_right}
 use Rattle.fields.specs.Fields.{holds_number, number_at, minor_at, major_at, order_at, shift_at, mini_at, dirs_at, fats_at, dir_at, transaction_at, cutoff_at, minifat_at, minifats_at, difat_at, difats_at}
-use Rattle.reader.specs.Serve.{served_at, place_after, stepped, numbers_of}
-use Rattle.reader.specs.declared.Reader.{Reader}
+use Rattle.reader.specs.Serve.{served_at, place_after, numbers_of}
 use Rattle.reader.specs.declared.Numbers.{Numbers}
 
 -- The number of the field, where b is as long as a header and the field holds one (MS-CFB 2.2).
@@ -32,16 +31,6 @@ served_none b i none = ap (λ (t : Bool). choose t (number_at b i) 0) (both_fals
 pub place_moves : (i : ℕ) → i < 18 → place_after i ≡ i + 1
 unfolding place_after
 place_moves i h = rw (lt-ltb i 18 h)
-
--- The same place, from behind the last field.
-pub place_stays : (i : ℕ) → 18 ≤ i → place_after i ≡ i
-unfolding place_after
-place_stays i h = rw (le-ltb i 18 h)
-
--- A reader of the same bytes at the place behind is the reader one step on.
-pub steps : (r : Reader) (i : ℕ) → i ≡ place_after r.at → ◌≡◌ {A = Reader} (record { bytes = r.bytes; at = i }) (stepped r)
-unfolding stepped
-steps r i e = ap (λ (n : ℕ). record { bytes = r.bytes; at = n }) e
 
 -- What one reader gives of a whole header is the number in each of its fields (MS-CFB 2.2).
 pub numbers_are : (b : List ℕ) → 512 ≤ length b → ◌≡◌ {A = Numbers} (numbers_of b)

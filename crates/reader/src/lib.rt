@@ -53,36 +53,25 @@ pub struct Numbers {
 fn holds_number(place: usize) -> bool
     ensures { result ≡ holds_number place }
 {
-    if ENTRIES < place {
-        return false;
-    }
-    if place < MINOR {
-        return false;
-    }
-    place != RESERVED
+    (MINOR..=ENTRIES).contains(&place) && place != RESERVED
 }
 
 // The number in the field at a place; 0 where the table has none, and in fewer bytes than a header's.
 fn served(b: &[u8], place: usize) -> u32
     ensures { result ≡ served_at b.now place }
 {
-    if b.len() < consts::HEADER_LEN {
-        return 0;
+    if consts::HEADER_LEN <= b.len() && holds_number(place) {
+        number_at(b, place)
+    } else {
+        0
     }
-    if !holds_number(place) {
-        return 0;
-    }
-    number_at(b, place)
 }
 
 // The place behind a field; behind the last one, the same place.
 fn place_after(place: usize) -> usize
     ensures { result ≡ place_after place }
 {
-    if ENTRIES < place {
-        return place;
-    }
-    place + 1
+    if place <= ENTRIES { place + 1 } else { place }
 }
 
 impl<'a> Reader<'a> {

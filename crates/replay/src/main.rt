@@ -2,10 +2,9 @@
 // and says how many answers there are and which differ.
 #![tactic(auto)]
 
-ghost use Rattle.std.specs.Prelude.{◌≡◌, ◌≢◌, true};
+ghost use Rattle.std.specs.Prelude.{◌≡◌, true, IsSome};
 ghost use Rattle.std.specs.Io.KnownBytes.{Consumes};
 ghost use Rattle.replay.specs.Agrees.{Agrees, Replays};
-ghost use Rattle.replay.specs.declared.Replayed.TheVariants.{Ended, Same};
 
 use answers::{same_list, same_read, same_write};
 use openings::same_image;
@@ -14,14 +13,6 @@ use std::io::Read;
 
 // How many records are replayed at most: nothing says that the input ends.
 const MOST: u64 = 100_000;
-
-// What came of the next record of the list.
-#[derive(Clone, Copy)]
-enum Replayed {
-    Ended,
-    Same,
-    Differs,
-}
 
 // How many answers there were, and how many of them differ.
 #[derive(Clone, Copy)]
@@ -43,20 +34,15 @@ fn same_answer(case: &[u8; RECORD]) -> bool
     }
 }
 
-// Reads the next record into the buffer and replays it there; input that ends or fails before the record is full ends the
-// list. No contract can say which bytes standard input gives: `Same` is said of those that the buffer then holds, and they
-// are the bytes that the input gave.
-fn replay_next<R: Read>(input: &mut R, case: &mut [u8; 1024]) -> Replayed
-    ensures same { result ≡ Same → Agrees case.new }
-    ensures read { result ≢ Ended → Consumes (R.remaining input.old) (R.remaining input.new) case.new }
+// Reads the next record into the buffer and replays it there, and says whether the answer is the same; input that ends or
+// fails before the record is full ends the list. No contract can say which bytes standard input gives: what is the same is
+// said of those that the buffer then holds, and they are the bytes that the input gave.
+fn replay_next<R: Read>(input: &mut R, case: &mut [u8; RECORD]) -> Option<bool>
+    ensures same { result ≡ Some true → Agrees case.new }
+    ensures read { IsSome result → Consumes (R.remaining input.old) (R.remaining input.new) case.new }
 {
-    if input.read_exact(case).is_err() {
-        return Replayed::Ended;
-    }
-    if same_answer(case) {
-        return Replayed::Same;
-    }
-    Replayed::Differs
+    input.read_exact(case).ok()?;
+    Some(same_answer(case))
 }
 
 // Writes the line of an answer that differs, with its place in the list, from 1 on.
@@ -69,23 +55,17 @@ fn replay_all(rt: &(impl Input + Print)) -> Sum
     ensures { Replays result.answers result.differ }
 {
     let mut input = rt.reader();
-    let mut case = [0u8; 1024];
-    let mut answers: u64 = 0;
-    let mut differ: u64 = 0;
-    while answers < MOST {
-        let next = replay_next(&mut input, &mut case);
-        match next {
-            Replayed::Ended => {
-                return Sum { answers, differ };
-            }
-            Replayed::Same => {
-                answers += 1;
-            }
-            Replayed::Differs => {
-                answers += 1;
-                differ += 1;
-                say_place(rt, answers);
-            }
+    let mut case = [0u8; RECORD];
+    let mut answers = 0;
+    let mut differ = 0;
+    for place in 1..=MOST {
+        let Some(same) = replay_next(&mut input, &mut case) else {
+            break;
+        };
+        answers = place;
+        if !same {
+            differ += 1;
+            say_place(rt, place);
         }
     }
     Sum { answers, differ }

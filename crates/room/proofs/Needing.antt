@@ -1,5 +1,5 @@
 -- How many sectors a change needs: the laws of rounding up, and of the sectors that there are after more are added. Assumes nothing.
-use Prim.Native.Nat.{ℕ, suc, ◌+◌, ◌-◌, ◌*◌, ◌/◌, ◌%◌, ◌≤◌, ◌<◌}
+use Prim.Native.Nat.{ℕ, suc, ◌+◌, ◌-◌, ◌*◌, ◌/◌, ◌%◌, ◌≤◌, ◌<◌, min}
 use mathlib.Core.Path.{◌≡◌, ◌∙◌, sym, ap}
 use mathlib.Core.Bool.{Bool, true, false}
 use mathlib.Core.Logic.{◌⊎◌, inl, inr, ⊎_elim, ◌≢◌}
@@ -7,30 +7,19 @@ use native.Mathlib.Omega.{arith}
 use native.Mathlib.Nat.{sub-zero, add-mul, one-mul, mul_comm, mul-le-mul_left, mul-le-mul_right, div-mul-le_self, mul-add-div_right, div-add-mod, mod-lt, add-zero, div-eq_of_lt}
 use borrow.Author.Tests.{eq-eqb, ne_eqb, lt-leb}
 use lib.Dec.{leb}
+use Rattle.std.specs.Int.{div_ceil}
 use Rattle.lists.specs.Lists.{choose}
 use Rattle.lists.proofs.Cases.{true_or, same_or, below_or}
 use Rattle.sectors.specs.Sectors.{per_sector}
 use Rattle.fat.specs.Lists.{ceil}
 use Rattle.fat.proofs.Listing.{ceil_enough}
-use Rattle.room.specs.Needed.{resize_more, write_more}
+use Rattle.room.specs.Needed.{write_more}
 use Rattle.disk.proofs.Fitting.{count_grows, count_more, count_none}
 use Rattle.disk.specs.Disk.{needs_difat, after_fat, one_more, count_after}
 
 -- a quotient by m or more, m times
 pub quotient_times : (a b m : ℕ) → m ≤ b → a / b * m ≤ a
 quotient_times a b m h = omega (arith, mul-le-mul_left (a / b) h, div-mul-le_self a b)
-
--- rounding up: whole parts, and what is left of them rounded up by itself
-pub ceil_left : (a b : ℕ) → 1 ≤ b → a / b + (a - a / b * b + (b - 1)) / b ≡ ceil a b
-unfolding ceil
-ceil_left a b h =
-    let left : a - a / b * b ≡ a % b = omega (arith, div-add-mod a b, mul_comm b (a / b)) in
-    let all : a + (b - 1) ≡ a / b * b + (a % b + (b - 1)) = omega (arith, div-add-mod a b, mul_comm b (a / b)) in
-    sym (rw (all, left) (mul-add-div_right {m = b} h (a / b) (a % b + (b - 1))))
-
--- what is left is less than a part
-pub left_less : (a b : ℕ) → 1 ≤ b → a - a / b * b < b
-left_less a b h = omega (arith, div-add-mod a b, mul_comm b (a / b), mod-lt a h)
 
 -- a number of whole parts is itself rounded up, and any other one more
 ceil_parts : (q b r : ℕ) → 1 ≤ b → r < b → (q * b + r) / b ≡ q
@@ -49,6 +38,14 @@ ceil_part a b h d =
     let whole : a + (b - 1) ≡ (a / b + 1) * b + (a % b - 1) = omega (arith, div-add-mod a b, mul_comm b (a / b), add-mul (a / b) 1 b, one-mul b) in
     sym (rw whole (ceil_parts (a / b + 1) b (a % b - 1) h (omega (arith, mod-lt a h))))
 
+-- rounding up as the library does it: the whole parts, and one more for what is left
+pub ceil_div : (a b : ℕ) → 1 ≤ b → div_ceil a b ≡ ceil a b
+ceil_div a b h =
+    ⊎_elim
+    (λ (e : a % b ≡ 0). rw (e, add-zero) (ceil_whole a b h e))
+    (λ (d : a % b ≢ 0). let one : min 1 (a % b) ≡ 1 = omega arith in rw one (ceil_part a b h d))
+    (same_or (a % b) 0)
+
 -- what c whole parts hold asks for no more than c, and what is over is rounded up by itself
 pub ceil_within : (a b c : ℕ) → 1 ≤ b → a ≤ b * c → ceil a b ≤ c
 ceil_within a b c h l =
@@ -63,17 +60,22 @@ ceil_over a b c h =
     let parts : b * c + a + (b - 1) ≡ c * b + (a + (b - 1)) = omega (arith, mul_comm b c) in
     rw parts (mul-add-div_right {m = b} h c (a + (b - 1)))
 
--- a write that stays within the chain asks for none, and one that does not for what is over
+-- a write that stays within the chain asks for none, and any for what is over
 pub write_within : (S count offset bytes : ℕ) → 1 ≤ S → offset ≤ S * count → bytes ≤ S * count - offset → 0 ≡ write_more S count offset bytes
 unfolding write_more
 write_within S count offset bytes h o l = omega (arith, ceil_within (offset + bytes) S count h (omega arith))
 
-pub write_over : (S count offset bytes : ℕ) → 1 ≤ S → offset ≤ S * count → S * count - offset < bytes
-    → ceil (bytes - (S * count - offset)) S ≡ write_more S count offset bytes
-unfolding write_more
-write_over S count offset bytes h o l =
+pub write_over : (S count offset bytes : ℕ) → 1 ≤ S → offset ≤ S * count → ceil (bytes - (S * count - offset)) S ≡ write_more S count offset bytes
+unfolding write_more ceil
+write_over S count offset bytes h o =
+    ⊎_elim
+    (λ (l : bytes < S * count - offset + 1).
+    let none : bytes - (S * count - offset) ≡ 0 = omega arith in
+    rw none (div-eq_of_lt (omega arith) ∙ write_within S count offset bytes h o (omega arith)))
+    (λ (g : S * count - offset + 1 ≤ bytes).
     let all : offset + bytes ≡ S * count + (bytes - (S * count - offset)) = omega arith in
-    sym (rw all (omega (arith, ceil_over (bytes - (S * count - offset)) S count h)))
+    sym (rw all (omega (arith, ceil_over (bytes - (S * count - offset)) S count h))))
+    (below_or bytes (S * count - offset + 1))
 
 -- one sector more: one, two or three
 pub one_more_data : (S n : ℕ) → n % per_sector S ≢ 0 → n + 1 ≡ one_more S n
@@ -100,40 +102,27 @@ one_more_between S n = at (same_or (n % per_sector S) 0) (true_or (needs_difat S
     at (inl z) (inr f) = (omega (arith, one_more_fat S n z f), omega (arith, one_more_fat S n z f))
 
 -- where the loop of `has_room` stands: i of the sectors are counted, and what is left from here is the whole
-pub record Counts (S n more room count i : ℕ) : Type 0 where
-  pub far : i ≤ more
-  pub few : more ≤ room - n
+pub record Counts (S n more count i : ℕ) : Type 0 where
   pub bounded : count ≤ n + 3 * i
   pub left : count_after S n more ≡ count_after S count (more - i)
 
-pub counts_begun : (S n more room : ℕ) → more ≤ room - n → Counts S n more room n 0
-counts_begun S n more room h = record { far = omega arith; few = h; bounded = omega arith; left = ap (count_after S n) (sym (sub-zero more)) }
+pub counts_begun : (S n more : ℕ) → Counts S n more n 0
+counts_begun S n more = record { bounded = omega arith; left = ap (count_after S n) (sym (sub-zero more)) }
 
-pub counts_on : (S n more room count i next : ℕ) → Counts S n more room count i → i < more → next ≡ one_more S count → Counts S n more room next (i + 1)
-counts_on S n more room count i next g l e =
+pub counts_on : (S n more count i next : ℕ) → Counts S n more count i → i < more → next ≡ one_more S count → Counts S n more next (i + 1)
+counts_on S n more count i next g l e =
     record {
-      far = omega arith;
-      few = g.few;
       bounded = omega (arith, (one_more_between S count).1, g.bounded);
       left =
           let step : more - i ≡ suc (more - (i + 1)) = omega arith in
           g.left ∙ ap (count_after S count) step ∙ count_more S count (more - (i + 1)) ∙ ap (λ (m : ℕ). count_after S m (more - (i + 1))) (sym e);
     }
 
-pub counts_over : (S n more room count i : ℕ) → Counts S n more room count i → more ≤ i → count_after S n more ≡ count
-counts_over S n more room count i g h =
+pub counts_over : (S n more count i : ℕ) → Counts S n more count i → more ≤ i → count_after S n more ≡ count
+counts_over S n more count i g h =
     let none : more - i ≡ 0 = omega arith in
     g.left ∙ ap (count_after S count) none ∙ count_none S count
 
 -- more than there is room for
 pub counts_past : (S n more room : ℕ) → n ≤ room → room - n < more → false ≡ leb (count_after S n more) room
 counts_past S n more room h l = sym (lt-leb (count_after S n more) room (omega (arith, count_grows S n more)))
-
--- a length that a chain has sectors for asks for none, and any other for what is over
-pub resize_within : (S count bytes need : ℕ) → need ≡ ceil bytes S → need ≤ count → 0 ≡ resize_more S count bytes
-unfolding resize_more
-resize_within S count bytes need e l = omega (arith, e)
-
-pub resize_over : (S count bytes need : ℕ) → need ≡ ceil bytes S → need - count ≡ resize_more S count bytes
-unfolding resize_more
-resize_over S count bytes need e = ap (λ (n : ℕ). n - count) e

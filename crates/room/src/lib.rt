@@ -8,15 +8,12 @@ ghost use Rattle.disk.specs.Disk.{one_more, count_after};
 
 use disk::disk::needs_difat;
 
-// How many sectors so many bytes ask for: whole ones, and one more for what is left. S - 1 is added to what is left alone, so that no sum can wrap.
+// How many sectors so many bytes ask for: whole ones, and one more for what is left. Nothing is added to the bytes, so that no sum can wrap.
 pub fn sectors_for(s: usize, bytes: u64) -> usize
     requires { (2 ≤ s) × (s ≤ 65536) }
     ensures { result ≡ ceil_of bytes s }
 {
-    let each = s as u64;
-    let whole = bytes / each;
-    let left = bytes - whole * each;
-    (whole + (left + (each - 1)) / each) as usize
+    bytes.div_ceil(s as u64) as usize
 }
 
 // How many sectors so many bytes ask for more than a chain of count has.
@@ -24,11 +21,7 @@ pub fn sectors_over(s: usize, count: usize, bytes: u64) -> usize
     requires { (2 ≤ s) × (s ≤ 65536) }
     ensures { result ≡ resize_more s count bytes }
 {
-    let need = sectors_for(s, bytes);
-    if need <= count {
-        return 0;
-    }
-    need - count
+    sectors_for(s, bytes).saturating_sub(count)
 }
 
 // How many sectors a write of so many bytes from an offset within a chain of count sectors on asks for more.
@@ -37,10 +30,7 @@ pub fn sectors_past(s: usize, count: usize, offset: usize, bytes: usize) -> usiz
     ensures { result ≡ write_more s count offset bytes }
 {
     let rest = s * count - offset;
-    if bytes <= rest {
-        return 0;
-    }
-    sectors_for(s, (bytes - rest) as u64)
+    sectors_for(s, bytes.saturating_sub(rest) as u64)
 }
 
 // How many sectors there are after one more behind n for data, with the FAT and DIFAT sectors that come before it.
@@ -67,10 +57,8 @@ pub fn has_room(s: usize, n: usize, more: usize, room: usize) -> bool
         return false;
     }
     let mut count = n;
-    let mut i = 0;
-    while i < more {
+    for _ in 0..more {
         count = one_more(s, count);
-        i += 1;
     }
     count <= room
 }

@@ -4,9 +4,10 @@ use mathlib.Core.Path.{◌≡◌, ◌∙◌}
 use mathlib.Core.List.{List}
 use native.Mathlib.Omega.{arith}
 use native.Mathlib.Nat.{mul-one, mul-le-mul_left, mul-le-mul_right, add-mul, one-mul, add-zero, mul-add-div_right, mul-add-mod_self_right, div-eq_of_lt, mod-eq_of_lt}
-use lib.ListN.{get_or, take, drop}
+use lib.ListN.{length, get_or, take, drop}
 use Rattle.lists.specs.Lists.{part}
-use Rattle.sectors.specs.Sectors.{sector_of, per_sector, entry_in, entry_of, Holds}
+use Rattle.lists.proofs.Splice.{length_part}
+use Rattle.sectors.specs.Sectors.{start_of, sector_of, per_sector, entry_in, entry_of, Holds}
 
 -- a number is at most its multiple
 pub scaled : (a s : ℕ) → 1 ≤ s → a ≤ a * s
@@ -16,6 +17,14 @@ scaled a s h = rw mul-one at (mul-le-mul_left a h)
 pub lent_sector : (S i : ℕ) (img : List ℕ) → take ((i + 1) * S + S - (i + 1) * S) (drop ((i + 1) * S) img) ≡ sector_of S img i
 unfolding sector_of part
 lent_sector S i img = let k : (i + 1) * S + S - (i + 1) * S ≡ S = omega arith in rw k
+
+-- the same, between where it begins and where it ends
+pub spanned_sector : (S i : ℕ) (img : List ℕ) (a e : ℕ) → (a ≡ start_of S i) × (e ≡ start_of S i + S) → take (e - a) (drop a img) ≡ sector_of S img i
+spanned_sector S i img a e at = rw (at.0, at.1) (lent_sector S i img)
+
+pub length_sector : (S i : ℕ) (img : List ℕ) → start_of S i + S ≤ length img → length (sector_of S img i) ≡ S
+unfolding sector_of
+length_sector S i img inside = length_part img (start_of S i) S inside
 
 -- a sector below n lies within an image that holds n
 pub sector_within : (S n len i : ℕ) → Holds S n len → i < n → (i + 1) * S + S ≤ len

@@ -1,6 +1,6 @@
 -- The laws of what a new sector holds, and of a store in a sector that was lent as a part of the image. Assumes nothing.
 use Prim.Native.Nat.{ℕ, zero, suc, ◌+◌, ◌-◌, ◌*◌, ◌≤◌, ◌<◌}
-use mathlib.Core.Path.{◌≡◌, refl, ◌∙◌, sym, ap}
+use mathlib.Core.Path.{◌≡◌, refl, ◌∙◌, sym, ap, ap₂}
 use mathlib.Core.List.{List, [], ◌∷◌, ◌++◌}
 use native.Mathlib.Omega.{arith}
 use native.Mathlib.Nat.{zero-add}
@@ -17,7 +17,7 @@ use Rattle.sectors.specs.Sectors.{start_of, sector_of, per_sector}
 use Rattle.sectors.specs.Init.{init_bytes}
 use Rattle.sectors.specs.declared.init.SectorInit.{SectorInit}
 use Rattle.sectors.specs.declared.init.SectorInit.TheVariants.{Zero, Fat, Difat}
-use Rattle.sectors.proofs.Laws.{lent_sector}
+use Rattle.sectors.proofs.Laws.{spanned_sector, length_sector}
 
 -- k FREE entries are 4 k bytes of 255
 free_bytes : (k : ℕ) → replicate (4 * k) 255 ≡ list_bytes (replicate k free_sector)
@@ -79,31 +79,24 @@ length_init S Difat e h =
     ∙ omega (arith, length-append (replicate (per_sector S - 1) free_sector) (end_of_chain ∷ []), length-replicate {A = ℕ} (per_sector S - 1) free_sector, e)
 
 -- a run stored in a sector that was lent, and a whole sector
-pub put_part : (S i : ℕ) (img run : List ℕ) (o : ℕ) (ys : List ℕ) → o + length ys ≤ S → start_of S i + S ≤ length img
-    → run ≡ splice (take ((i + 1) * S + S - (i + 1) * S) (drop ((i + 1) * S) img)) o ys
-    → put_mid ((i + 1) * S) ((i + 1) * S + S - (i + 1) * S) img run ≡ splice img (start_of S i + o) ys
+pub put_part : (S i : ℕ) (img run : List ℕ) (a e o : ℕ) (ys : List ℕ) → o + length ys ≤ S → start_of S i + S ≤ length img → (a ≡ start_of S i) × (e ≡ start_of S i + S)
+    → run ≡ splice (take (e - a) (drop a img)) o ys → put_mid a (e - a) img run ≡ splice img (start_of S i + o) ys
 unfolding sector_of
-put_part S i img run o ys fits inside e =
-    put_mid_splice ((i + 1) * S) ((i + 1) * S + S - (i + 1) * S) img run (ap length ran ∙ long ∙ omega arith)
-    ∙ ap (splice img ((i + 1) * S)) ran
-    ∙ splice_part img ((i + 1) * S) S o ys fits inside
+put_part S i img run a e o ys fits inside at r =
+    put_mid_splice a (e - a) img run (ap length ran ∙ long ∙ omega arith)
+    ∙ ap₂ (splice img) at.0 ran
+    ∙ splice_part img (start_of S i) S o ys fits inside
   where
-    ran : run ≡ splice (part img ((i + 1) * S) S) o ys
-    ran = e ∙ ap (λ (l : List ℕ). splice l o ys) (lent_sector S i img)
+    ran : run ≡ splice (part img (start_of S i) S) o ys
+    ran = r ∙ ap (λ (l : List ℕ). splice l o ys) (spanned_sector S i img a e at)
 
-    long : length (splice (part img ((i + 1) * S) S) o ys) ≡ S
-    long = length_splice (part img ((i + 1) * S) S) o ys (rw (length_part img ((i + 1) * S) S inside) fits) ∙ length_part img ((i + 1) * S) S inside
+    long : length (splice (part img (start_of S i) S) o ys) ≡ S
+    long = length_splice (part img (start_of S i) S) o ys (rw (length_part img (start_of S i) S inside) fits) ∙ length_part img (start_of S i) S inside
 
-pub init_part : (S i : ℕ) (img run : List ℕ) (init : SectorInit) → S ≡ 4 * per_sector S → 1 ≤ per_sector S → start_of S i + S ≤ length img
-    → run ≡ init_bytes (length (take ((i + 1) * S + S - (i + 1) * S) (drop ((i + 1) * S) img))) init
-    → put_mid ((i + 1) * S) ((i + 1) * S + S - (i + 1) * S) img run ≡ splice img (start_of S i) (init_bytes S init)
-unfolding sector_of
-init_part S i img run init e h inside ran =
-    let long : length (take ((i + 1) * S + S - (i + 1) * S) (drop ((i + 1) * S) img)) ≡ S = ap length (lent_sector S i img) ∙ length_part img ((i + 1) * S) S inside in
+pub init_part : (S i : ℕ) (img run : List ℕ) (a e : ℕ) (init : SectorInit) → S ≡ 4 * per_sector S → 1 ≤ per_sector S → start_of S i + S ≤ length img
+    → (a ≡ start_of S i) × (e ≡ start_of S i + S) → run ≡ init_bytes (length (take (e - a) (drop a img))) init → put_mid a (e - a) img run ≡ splice img (start_of S i) (init_bytes S init)
+init_part S i img run a e init whole h inside at ran =
+    let long : length (take (e - a) (drop a img)) ≡ S = ap length (spanned_sector S i img a e at) ∙ length_sector S i img inside in
     let is : run ≡ init_bytes S init = ran ∙ ap (λ (n : ℕ). init_bytes n init) long in
-    put_mid_splice ((i + 1) * S) ((i + 1) * S + S - (i + 1) * S) img run (ap length is ∙ length_init S init e h ∙ omega arith)
-    ∙ ap (splice img ((i + 1) * S)) is
-
--- a sector of entries has a byte
-pub init_length : (S : ℕ) → S ≡ 4 * per_sector S → 1 ≤ per_sector S → 1 ≤ S
-init_length S e h = omega (arith, e)
+    put_mid_splice a (e - a) img run (ap length is ∙ length_init S init whole h ∙ omega arith)
+    ∙ ap₂ (splice img) at.0 is

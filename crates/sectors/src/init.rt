@@ -6,6 +6,8 @@ ghost use Rattle.sectors.specs.Sectors.{start_of, per_sector};
 ghost use Rattle.sectors.specs.Init.{init_bytes};
 ghost use Rattle.sectors.specs.declared.init.SectorInit.TheVariants.{Difat};
 
+use crate::span;
+
 // What a new sector is for.
 #[derive(Clone, Copy)]
 pub enum SectorInit {
@@ -22,7 +24,7 @@ fn put_entry(sector: &mut [u8], j: usize, v: u32)
     requires { 4 * j + 4 ≤ length sector.old }
     ensures { sector.new ≡ splice sector.old (4 * j) (digits 4 v) }
 {
-    words::put32(sector, 4 * j, v);
+    words::put::<4>(sector, 4 * j, v);
 }
 
 // Stores entry j of sector id of an image.
@@ -31,9 +33,7 @@ pub fn put_at(image: &mut [u8], s: usize, id: usize, j: usize, v: u32)
     requires j_bound { 4 * j + 4 ≤ s }
     ensures { image.new ≡ splice image.old (start_of s id + 4 * j) (digits 4 v) }
 {
-    let a = (id + 1) * s;
-    let b = a + s;
-    put_entry(&mut image[a..b], j, v);
+    put_entry(&mut image[span(s, id)], j, v);
 }
 
 // Makes a sector a new DIFAT sector.
@@ -41,7 +41,7 @@ fn init_difat(sector: &mut [u8])
     requires { (length sector.old ≡ 4 * per_sector (length sector.old)) × (1 ≤ per_sector (length sector.old)) }
     ensures { sector.new ≡ init_bytes (length sector.old) Difat }
 {
-    words::fill(sector, 255);
+    sector.fill(255);
     let last = sector.len() / 4 - 1;
     put_entry(sector, last, consts::END_OF_CHAIN);
 }
@@ -52,8 +52,8 @@ fn init_sector(sector: &mut [u8], init: SectorInit)
     ensures { sector.new ≡ init_bytes (length sector.old) init }
 {
     match init {
-        SectorInit::Zero => words::fill(sector, 0),
-        SectorInit::Fat => words::fill(sector, 255),
+        SectorInit::Zero => sector.fill(0),
+        SectorInit::Fat => sector.fill(255),
         SectorInit::Difat => init_difat(sector),
     }
 }
@@ -64,7 +64,5 @@ pub fn init_at(image: &mut [u8], s: usize, id: usize, init: SectorInit)
     requires s_value { (s ≡ 4 * per_sector s) × (1 ≤ per_sector s) }
     ensures { image.new ≡ splice image.old (start_of s id) (init_bytes s init) }
 {
-    let a = (id + 1) * s;
-    let b = a + s;
-    init_sector(&mut image[a..b], init);
+    init_sector(&mut image[span(s, id)], init);
 }

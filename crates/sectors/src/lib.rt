@@ -3,27 +3,47 @@
 
 pub mod init;
 
-ghost use Rattle.std.specs.Prelude.{◌≡◌, ◌+◌, ◌*◌, ◌≤◌, length};
+ghost use Rattle.std.specs.Prelude.{◌≡◌, ◌+◌, ◌*◌, ◌^◌, ◌<◌, ◌≤◌, length};
 ghost use Rattle.lists.specs.Lists.{tab};
 ghost use Rattle.sectors.specs.Sectors.{entry_in, free_from, start_of, sector_of};
+
+use std::ops::Range;
+
+// Where sector id of an image stands.
+pub fn span(s: usize, id: usize) -> Range<usize>
+    requires s_bound { 1 ≤ s }
+    requires end_fits { start_of s id + s < 2 ^ 64 }
+    ensures { (result.start ≡ start_of s id) × (result.end ≡ start_of s id + s) }
+{
+    let start = (id + 1) * s;
+    start..start + s
+}
+
+// Sector id of an image: the part of the image that it is.
+pub fn sector(image: &[u8], s: usize, id: usize) -> &[u8]
+    requires s_bound { 1 ≤ s }
+    requires s_in_bounds { start_of s id + s ≤ length image.now }
+    ensures value { result.now ≡ sector_of s image.now id }
+    ensures len { length result.now ≡ s }
+{
+    &image[span(s, id)]
+}
 
 // Entry j of a sector.
 pub fn entry(sector: &[u8], j: usize) -> u32
     requires { 4 * j + 4 ≤ length sector.now }
     ensures { result ≡ entry_in sector.now j }
 {
-    words::read32(sector, 4 * j)
+    words::read::<4>(sector, 4 * j)
 }
 
-// Entry j of sector id of an image: the sector is lent as the part of the image that it is.
+// Entry j of sector id of an image.
 pub fn entry_at(image: &[u8], s: usize, id: usize, j: usize) -> u32
     requires s_in_bounds { start_of s id + s ≤ length image.now }
     requires j_bound { 4 * j + 4 ≤ s }
     ensures { result ≡ entry_in (sector_of s image.now id) j }
 {
-    let a = (id + 1) * s;
-    let b = a + s;
-    entry(&image[a..b], j)
+    entry(sector(image, s, id), j)
 }
 
 // The first entries of a sector, as many as out has room for.
@@ -31,10 +51,8 @@ pub fn load(sector: &[u8], out: &mut [u32])
     requires { 4 * length out.old ≤ length sector.now }
     ensures { out.new ≡ tab (entry_in sector.now) (length out.old) }
 {
-    let mut j = 0;
-    while j < out.len() {
-        out[j] = words::read32(sector, 4 * j);
-        j += 1;
+    for (j, own) in out.iter_mut().enumerate() {
+        *own = entry(sector, j);
     }
 }
 
@@ -44,9 +62,7 @@ pub fn load_at(image: &[u8], s: usize, id: usize, out: &mut [u32])
     requires le_s { (1 ≤ s) × (4 * length out.old ≤ s) }
     ensures { out.new ≡ tab (entry_in (sector_of s image.now id)) (length out.old) }
 {
-    let a = (id + 1) * s;
-    let b = a + s;
-    load(&image[a..b], out);
+    load(sector(image, s, id), out);
 }
 
 // Whether count entries of sector id of an image, from one on, are all FREE.
@@ -55,9 +71,7 @@ pub fn free_at(image: &[u8], s: usize, id: usize, from: usize, count: usize) -> 
     requires le_s { (1 ≤ s) × (4 * (from + count) ≤ s) }
     ensures { result ≡ free_from (sector_of s image.now id) from count }
 {
-    let a = (id + 1) * s;
-    let b = a + s;
-    free_from(&image[a..b], from, count)
+    free_from(sector(image, s, id), from, count)
 }
 
 // Whether the entries of a sector from j on are all FREE. No early way out: so the loop runs on vectors.
@@ -65,13 +79,7 @@ pub fn free_from(sector: &[u8], from: usize, count: usize) -> bool
     requires { 4 * (from + count) ≤ length sector.now }
     ensures { result ≡ free_from sector.now from count }
 {
-    let mut free = true;
-    let mut j = 0;
-    while j < count {
-        if words::read32(sector, 4 * (from + j)) != consts::FREE_SECTOR {
-            free = false;
-        }
-        j += 1;
-    }
-    free
+    (from..from + count).fold(true, |free, j| {
+        free & (entry(sector, j) == consts::FREE_SECTOR)
+    })
 }

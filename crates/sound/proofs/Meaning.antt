@@ -6,6 +6,9 @@ use mathlib.Core.List.{List}
 use mathlib.Core.Logic.{◌⊎◌, inl, inr, ⊎_elim}
 use lib.ListN.{get_or, get_or-eq_default}
 use Rattle.lists.proofs.Cases.{below_or}
+use Rattle.std.specs.Prelude.{Result}
+use Rattle.consts.specs.declared.refusal.Refusal.{Refusal}
+use Rattle.consts.proofs.Refusals.{answers_apart}
 use Rattle.header.specs.declared.Validation.{Validation}
 use Rattle.judge.specs.Judge.{pointed, marks_of}
 use Rattle.alloc.specs.Opening.{Tables}
@@ -26,5 +29,5 @@ marks_binary n fat t =
     at false = inl refl
 
 -- any two results that the opening's contract permits are the same, answer and tables
-pub open_unique : (m : Validation) (img : List ℕ) (used : ℕ) (t : Tables) (r q : Found) (t' t'' : Tables) → OpenSays m img used t r t' → OpenSays m img used t q t'' → (r ≡ q) × (t' ≡ t'')
-open_unique m img used t r q t' t'' s u = (s.found ∙ sym u.found, s.left ∙ sym u.left)
+pub open_unique : (m : Validation) (img : List ℕ) (used : ℕ) (t : Tables) (r q : Result Found Refusal) (t' t'' : Tables) → OpenSays m img used t r t' → OpenSays m img used t q t'' → (r ≡ q) × (t' ≡ t'')
+open_unique m img used t r q t' t'' s u = (answers_apart r q _ (s.number ∙ sym u.number) s.found u.found, s.left ∙ sym u.left)

@@ -1,16 +1,15 @@
 -- Words that hold a state: how they are stored, each test, and the header's words one by one. Assumes nothing.
-use Prim.Native.Nat.{ℕ, zero, suc, ◌+◌, ◌≤◌, ◌<◌}
+use Prim.Native.Nat.{ℕ, suc, ◌+◌, ◌≤◌, ◌<◌}
 use mathlib.Core.Path.{◌≡◌, refl, sym, ◌∙◌, ap}
 use mathlib.Core.Bool.{Bool, true, false, not}
-use mathlib.Core.List.{List, [], ◌∷◌, ◌++◌}
+use mathlib.Core.List.{List, ◌∷◌, ◌++◌}
 use mathlib.Core.Logic.{◌≢◌}
 use native.Mathlib.Omega.{arith}
-use borrow.Author.Tests.{eq-eqb, ne_eqb, le-leb, lt-leb, leb-true}
+use borrow.Author.Tests.{eq-eqb, ne_eqb, le-leb, lt-leb}
 use lib.Dec.{eqb, leb}
-use lib.ListN.{length, get_or, drop, set, replicate, length-drop, drop_of_length-le}
-use lib.Seq.{drop-cons, get_or-drop}
+use lib.ListN.{length, get_or, drop, set, replicate, drop_of_length-le}
+use lib.Seq.{drop-cons}
 use Rattle.lists.specs.Lists.{both}
-use Rattle.lists.proofs.Cases.{both_left, both_right}
 use Rattle.header.specs.Versions.{version_of}
 use Rattle.header.specs.Read.{unknown}
 use Rattle.header.specs.declared.Version.{Version}
@@ -61,18 +60,6 @@ pub fits_end : (words : List ℕ) (i : ℕ) → fits_in (drop 4 words) ≡ fits_
 unfolding fits_in
 fits_end words i e h = sym (e ∙ ap fits_in (drop_of_length-le words {i = 4 + i} h))
 
--- each of the words that fit
-pub fits_at : (xs : List ℕ) (i : ℕ) → i < length xs → fits_in xs ≡ true → get_or xs i 0 ≤ 4294967295
-unfolding fits_in
-fits_at [] i h e = absurd (omega arith)
-fits_at (x ∷ xs) zero h e = leb-true x 4294967295 (both_left (leb x 4294967295) (fits_in xs) e)
-fits_at (x ∷ xs) (suc i) h e = fits_at xs i (omega arith) (both_right (leb x 4294967295) (fits_in xs) e)
-
-pub fits_word : (words : List ℕ) (i : ℕ) → length words ≡ 121 → fits_in (drop 4 words) ≡ true → i < 117 → get_or words (4 + i) 0 ≤ 4294967295
-fits_word words i n e h =
-    let rest : length (drop 4 words) ≡ 117 = omega (arith, length-drop 4 words, n) in
-    rw (← get_or-drop 4 words i 0) (fits_at (drop 4 words) i (omega arith) e)
-
 -- the tests of a state's words, one by one
 pub mode_high : (words : List ℕ) → 1 < get_or words 0 0 → false ≡ holds words
 unfolding holds
@@ -85,16 +72,6 @@ version_none words h e = rw (le-leb (get_or words 0 0) 1 h, e)
 pub words_fit : (words : List ℕ) → get_or words 0 0 ≤ 1 → is_version (get_or words 4 0) ≡ true → fits_in (drop 4 words) ≡ holds words
 unfolding holds
 words_fit words h e = rw (le-leb (get_or words 0 0) 1 h, e)
-
--- the word of the mode of words that hold a state is 0 or 1
-pub holds_mode : (words : List ℕ) → holds words ≡ true → get_or words 0 0 ≤ 4294967295
-unfolding holds
-holds_mode words h = omega (arith, leb-true (get_or words 0 0) 1 (both_left (leb (get_or words 0 0) 1) _ h))
-
--- the header's words of words that hold a state fit
-pub holds_fits : (words : List ℕ) → holds words ≡ true → fits_in (drop 4 words) ≡ true
-unfolding holds
-holds_fits words h = both_right (is_version (get_or words 4 0)) (fits_in (drop 4 words)) (both_right (leb (get_or words 0 0) 1) (both (is_version (get_or words 4 0)) (fits_in (drop 4 words))) h)
 
 -- numbers that are read at their places, and the header behind them, are the state that the words hold
 pub state_held : (words held : List ℕ) {version : Version} {header : Header} {mode : Validation} → held ≡ drop 4 words → version ≡ version_of (get_or held 0 0) → header ≡ header_with version held → mode ≡ mode_of (get_or words 0 0)

@@ -3,7 +3,7 @@
 
 pub mod told;
 
-ghost use Rattle.std.specs.Prelude.{◌≤◌, ◌≡◌, ◌++◌, true, replicate, drop};
+ghost use Rattle.std.specs.Prelude.{◌≤◌, ◌≡◌, ◌++◌, true, false, replicate, drop, MatchOption};
 ghost use Rattle.states.specs.States.{mode_number, state_words, fits_in, is_version, holds, held_in};
 
 use cfb::State;
@@ -21,22 +21,13 @@ fn number_of_mode(mode: Validation) -> u64
     }
 }
 
-// A word of a header as one of a state.
-fn wide(x: u32) -> u64
-    ensures { result ≡ x }
-{
-    x as u64
-}
-
 // The words that hold a header, with zeros where the other numbers go.
 fn state_with(header: [u32; 117]) -> [u64; 121]
     ensures { result ≡ replicate 4 0 ++ header }
 {
     let mut words = [0u64; 121];
-    let mut i = 0;
-    while i < 117 {
-        words[4 + i] = wide(header[i]);
-        i += 1;
+    for i in 0..117 {
+        words[4 + i] = u64::from(header[i]);
     }
     words
 }
@@ -45,11 +36,8 @@ fn state_with(header: [u32; 117]) -> [u64; 121]
 pub fn words_of_state(s: State) -> [u64; 121]
     ensures { result ≡ state_words s }
 {
-    let header = s.header;
-    let held = words_of(header);
-    let mut words = state_with(held);
-    let mode = s.mode;
-    words[0] = number_of_mode(mode);
+    let mut words = state_with(words_of(s.header));
+    words[0] = number_of_mode(s.mode);
     words[1] = s.used as u64;
     words[2] = s.sectors as u64;
     words[3] = s.free as u64;
@@ -60,76 +48,34 @@ pub fn words_of_state(s: State) -> [u64; 121]
 fn is_version(word: u64) -> bool
     ensures { result ≡ is_version word }
 {
-    if word == 3 {
-        return true;
-    }
-    word == 4
+    word == 3 || word == 4
 }
 
-// Whether each of the header's words in a state's has 32 bits.
-fn fits(words: [u64; 121]) -> bool
-    ensures { result ≡ fits_in (drop 4 words) }
-{
-    let mut i = 0;
-    while i < 117 {
-        if 0xffff_ffff < words[4 + i] {
-            return false;
-        }
-        i += 1;
-    }
-    true
-}
-
-// Whether words hold a state: a mode of 0 or 1, a version of 3 or 4, and a header's words of 32 bits.
-pub fn holds_state(words: [u64; 121]) -> bool
-    ensures { result ≡ holds words }
-{
-    if 1 < words[0] {
-        return false;
-    }
-    if !is_version(words[4]) {
-        return false;
-    }
-    fits(words)
-}
-
-// A word of a state as one of a header.
-fn narrow(x: u64) -> u32
-    requires { x ≤ 4294967295 }
-    ensures { result ≡ x }
-{
-    x as u32
-}
-
-// The header's words in a state's.
-fn header_words(words: [u64; 121]) -> [u32; 117]
-    requires { fits_in (drop 4 words) ≡ true }
-    ensures { result ≡ drop 4 words }
+// The header's words in a state's, where each has 32 bits.
+fn held_words(words: &[u64; 121]) -> Option<[u32; 117]>
+    ensures { MatchOption result (fits_in (drop 4 words.now) ≡ false) (λ held. (fits_in (drop 4 words.now) ≡ true) × (held ≡ drop 4 words.now)) }
 {
     let mut held = [0u32; 117];
-    let mut i = 0;
-    while i < 117 {
-        held[i] = narrow(words[4 + i]);
-        i += 1;
+    for i in 0..117 {
+        held[i] = u32::try_from(words[4 + i]).ok()?;
     }
-    held
+    Some(held)
 }
 
-// The state that words hold; they are its words.
-pub fn state_in(words: [u64; 121]) -> State
-    requires { holds words ≡ true }
-    ensures value { result ≡ held_in words }
-    ensures result_value { state_words result ≡ words }
+// The state that words hold, where they hold one; they are its words.
+pub fn state_of(words: &[u64; 121]) -> Option<State>
+    ensures { MatchOption result (holds words.now ≡ false) (λ s. (holds words.now ≡ true) × (s ≡ held_in words.now) × (state_words s ≡ words.now)) }
 {
-    let held = header_words(words);
+    if 1 < words[0] || !is_version(words[4]) {
+        return None;
+    }
+    let held = held_words(words)?;
     let version = version_of(held[0]);
-    let header = header_with(version, held);
-    let mode = mode_of(narrow(words[0]));
-    State {
-        mode,
+    Some(State {
+        mode: mode_of(words[0] as u32),
         used: words[1] as usize,
         sectors: words[2] as usize,
         free: words[3] as usize,
-        header,
-    }
+        header: header_with(version, held),
+    })
 }

@@ -1,97 +1,84 @@
--- The loop of `write`: where it stands, a turn of it, and what it leaves; and a sector that was lent and comes back. Assumes nothing.
-use Prim.Native.Nat.{ℕ, ◌+◌, ◌-◌, ◌/◌, ◌%◌, ◌≤◌, ◌<◌}
-use mathlib.Core.Path.{◌≡◌, ◌∙◌, sym, ap}
-use mathlib.Core.List.{List}
+-- The loop of `write`: where it stands, a turn of it, and what it leaves. Assumes nothing.
+use Prim.Native.Nat.{ℕ, ◌+◌, ◌-◌, ◌/◌, ◌%◌, ◌≤◌, ◌<◌, min}
+use mathlib.Core.Path.{◌≡◌, refl, ◌∙◌, sym, ap}
+use mathlib.Core.List.{List, ◌++◌}
 use native.Mathlib.Omega.{arith}
-use borrow.Rule.Slice.PartMut.{put_mid}
-use lib.ListN.{length, get_or, take, drop}
+use lib.ListN.{length, get_or, take, drop, length-drop}
 use lib.Seq.{length-take-le, take_all, take-add}
-use Rattle.lists.specs.Lists.{splice, part}
-use Rattle.lists.proofs.Splice.{length_part, length_splice, splice_whole, splice_part}
+use Rattle.std.specs.Int.{div_ceil}
+use Rattle.std.proofs.lemmas.List.{drop-drop}
+use Rattle.lists.specs.Lists.{splice}
 use Rattle.sectors.specs.Sectors.{start_of}
 use Rattle.stores.specs.Stores.{write_bytes, Writable}
-use Rattle.chain.proofs.Bytes.{chain_place}
-use Rattle.chain.proofs.Standing.{Stands, stands_byte, lent_run, back_run}
+use Rattle.chain.proofs.Standing.{lent_ids, Turns, turns_begun, turns_done, turns_on, turns_over, turns_offset, turns_run, turns_stand, turns_id}
 use Rattle.stores.proofs.Stored.{write_length, write_none, write_run, write_more_lem}
 
--- a run copied over the part that is lent for it
-pub copied_run : (sector run out : List ℕ) (x : ℕ) → x + length run ≤ length sector → out ≡ splice (take (x + length run - x) (drop x sector)) 0 run
-    → put_mid x (x + length run - x) sector out ≡ splice sector x run
-copied_run sector run out x h e =
-    let lent : length (part sector x (length run)) ≡ length run = length_part sector x (length run) h in
-    let same : out ≡ run = e ∙ ap (λ (l : List ℕ). splice l 0 run) (lent_run sector x (length run)) ∙ splice_whole (part sector x (length run)) run (sym lent) in
-    back_run sector x (length run) out (ap length same) ∙ ap (splice sector x) same
-
--- a sector that was lent and comes back with a run over it
-pub sector_back : (S id x : ℕ) (img run out : List ℕ) → start_of S id + S ≤ length img → x + length run ≤ S
-    → out ≡ splice (take (start_of S id + S - start_of S id) (drop (start_of S id) img)) x run
-    → put_mid (start_of S id) (start_of S id + S - start_of S id) img out ≡ splice img (start_of S id + x) run
-sector_back S id x img run out h hx e =
-    let lent : length (part img (start_of S id) S) ≡ S = length_part img (start_of S id) S h in
-    let same : out ≡ splice (part img (start_of S id) S) x run = e ∙ ap (λ (l : List ℕ). splice l x run) (lent_run img (start_of S id) S) in
-    let long : length out ≡ S = ap length same ∙ length_splice (part img (start_of S id) S) x run (rw lent hx) ∙ lent in
-    back_run img (start_of S id) S out long
-    ∙ ap (splice img (start_of S id)) same
-    ∙ splice_part img (start_of S id) S x run hx h
-
--- where the loop stands: the first done bytes of buf are written
-pub record Writing (S : ℕ) (before ids : List ℕ) (offset : ℕ) (buf image : List ℕ) (done : ℕ) : Type 0 where
+-- where the loop stands: the first done bytes of buf are written, and the rest is left
+pub record Writing (S : ℕ) (before ids : List ℕ) (offset : ℕ) (buf : List ℕ) (end turn : ℕ) (image : List ℕ) (x : ℕ) (rest : List ℕ) : Type 0 where
+  pub done : ℕ
   pub asks : Writable S (length before) ids offset (length buf)
-  pub most : done ≤ length buf
+  pub stands : Turns S ids offset (length buf) end turn x done
+  pub left : rest ≡ drop done buf
   pub holds : image ≡ write_bytes S before ids offset (take done buf)
 
 -- less of what can be written can be written
 writable_less : {S len : ℕ} {ids : List ℕ} {offset count : ℕ} → Writable S len ids offset count → (k : ℕ) → k ≤ count → Writable S len ids offset k
 writable_less w k h = record { lies = w.lies; apart = w.apart; fits = omega (arith, w.fits) }
 
-pub writing_begun : (S : ℕ) (before ids : List ℕ) (offset : ℕ) (buf : List ℕ) → Writable S (length before) ids offset (length buf) → Writing S before ids offset buf before 0
-writing_begun S before ids offset buf w = record { asks = w; most = omega arith; holds = sym (write_none S before ids offset (writable_less w 0 (omega arith))) }
+pub writing_begun : (S : ℕ) (before ids : List ℕ) (offset : ℕ) (buf : List ℕ) (end : ℕ) → Writable S (length before) ids offset (length buf) → end ≡ div_ceil (offset + length buf) S
+    → Writing S before ids offset buf end 0 before (offset % S) buf
+writing_begun S before ids offset buf end w e = record {
+  done = 0;
+  asks = w;
+  stands = turns_begun S ids offset (length buf) end w.lies.some w.fits e;
+  left = refl;
+  holds = sym (write_none S before ids offset (writable_less w 0 (omega arith)));
+}
 
-module _ {S : ℕ} {before ids : List ℕ} {offset : ℕ} {buf image : List ℕ} {done : ℕ} (g : Writing S before ids offset buf image done) where
-  done_long : length (take done buf) ≡ done
-  done_long = length-take-le done buf g.most
+module _ {S : ℕ} {before ids : List ℕ} {offset : ℕ} {buf : List ℕ} {end turn : ℕ} {image : List ℕ} {x : ℕ} {rest : List ℕ}
+    (g : Writing S before ids offset buf end turn image x rest) where
+  done_long : length (take g.done buf) ≡ g.done
+  done_long = length-take-le g.done buf (turns_done g.stands)
 
-  done_asks : Writable S (length before) ids offset (length (take done buf))
-  done_asks = writable_less g.asks (length (take done buf)) (omega (arith, done_long, g.most))
+  rest_long : length rest ≡ length buf - g.done
+  rest_long = ap length g.left ∙ length-drop g.done buf
 
   pub writing_length : length image ≡ length before
-  writing_length = ap length g.holds ∙ write_length S before ids offset (take done buf) done_asks
-
-  pub writing_within : offset + length buf ≤ length before
-  writing_within = omega (arith, g.asks.fits, g.asks.lies.all)
+  writing_length =
+      ap length g.holds ∙ write_length S before ids offset (take g.done buf) (writable_less g.asks (length (take g.done buf)) (omega (arith, done_long, turns_done g.stands)))
 
   -- all are written
-  pub writing_over : length buf ≤ done → image ≡ write_bytes S before ids offset buf
-  writing_over h = g.holds ∙ ap (write_bytes S before ids offset) (take_all done buf h)
+  pub writing_over : length (lent_ids S offset end ids) ≤ turn → image ≡ write_bytes S before ids offset buf
+  writing_over h = g.holds ∙ ap (write_bytes S before ids offset) (take_all g.done buf (omega (arith, turns_over g.stands h)))
 
-  -- a turn: the next byte goes into a listed sector, and a run of buf is put there
-  module _ (more : done < length buf) where
-    pub writing_stands : Stands S (length image) ids (offset + done)
-    writing_stands =
-        record { lies = rw writing_length g.asks.lies; place = chain_place S before ids g.asks.lies (offset + done) (omega (arith, g.asks.fits)) }
+  -- a turn: a run of what is left is put into the next sector
+  pub writing_on : (step : ℕ) (run behind after : List ℕ) → turn < length (lent_ids S offset end ids) → step ≡ min (length rest) (S - x) → run ≡ take step rest → behind ≡ drop step rest
+      → after ≡ splice image (start_of S (get_or (lent_ids S offset end ids) turn 0) + x) run
+      → Writing S before ids offset buf end (turn + 1) after 0 behind
+  writing_on step run behind after more short front back e = record {
+    done = g.done + step;
+    asks = g.asks;
+    stands = rw next_done (turns_on g.stands);
+    left = back ∙ ap (drop step) g.left ∙ drop-drop step g.done buf;
+    holds =
+        e
+        ∙ ap (λ (i : ℕ). splice image (start_of S i + x) run) (turns_id g.stands more)
+        ∙ ap (λ (k : ℕ). splice image (start_of S (get_or ids ((offset + g.done) / S) 0) + k) run) (sym (turns_offset g.stands more))
+        ∙ write_run S image ids (offset + g.done) run (rw writing_length next_asks) place (turns_run g.stands more (length run) (omega (arith, run_long)))
+        ∙ ap (λ (u : List ℕ). write_bytes S u ids (offset + g.done) run) g.holds
+        ∙ ap (λ (k : ℕ). write_bytes S (write_bytes S before ids offset (take g.done buf)) ids (offset + k) run) (sym done_long)
+        ∙ write_more_lem S before ids offset (take g.done buf) run (writable_less g.asks (length (take g.done buf) + length run) (omega (arith, done_long, run_long, rest_long, turns_done g.stands)))
+        ∙ ap (write_bytes S before ids offset) (ap (λ (u : List ℕ). take g.done buf ++ u) (front ∙ ap (take step) g.left) ∙ sym (take-add g.done step buf));
+  }
+    where
+      next_done : g.done + step ≡ min (length buf) (g.done + (S - x))
+      next_done = omega (arith, rest_long, turns_done g.stands)
 
-    pub writing_on : (step : ℕ) (after : List ℕ) → step ≤ S - (offset + done) % S → step ≤ length buf - done
-        → after ≡ splice image (start_of S (get_or ids ((offset + done) / S) 0) + (offset + done) % S) (take (done + step - done) (drop done buf))
-        → Writing S before ids offset buf after (done + step)
-    unfolding part
-    writing_on step after within left e = record {
-      asks = g.asks;
-      most = omega arith;
-      holds =
-          e
-          ∙ ap (splice image (start_of S (get_or ids ((offset + done) / S) 0) + (offset + done) % S)) (lent_run buf done step)
-          ∙ write_run S image ids (offset + done) next (rw writing_length next_asks) writing_stands.place (omega (arith, next_long, stands_byte writing_stands))
-          ∙ ap (λ (u : List ℕ). write_bytes S u ids (offset + done) next) g.holds
-          ∙ ap (λ (k : ℕ). write_bytes S (write_bytes S before ids offset (take done buf)) ids (offset + k) next) (sym done_long)
-          ∙ write_more_lem S before ids offset (take done buf) next (writable_less g.asks (length (take done buf) + length next) (omega (arith, done_long, next_long)))
-          ∙ ap (write_bytes S before ids offset) (sym (take-add done step buf));
-    }
-      where
-        next : List ℕ
-        next = part buf done step
+      run_long : length run ≡ step
+      run_long = ap length front ∙ length-take-le step rest (omega arith)
 
-        next_long : length next ≡ step
-        next_long = length_part buf done step (omega arith)
+      place : (offset + g.done) / S < length ids
+      place = (turns_stand g.stands more g.asks.lies).place
 
-        next_asks : Writable S (length before) ids (offset + done) (length next)
-        next_asks = record { lies = g.asks.lies; apart = g.asks.apart; fits = omega (arith, g.asks.fits, next_long) }
+      next_asks : Writable S (length before) ids (offset + g.done) (length run)
+      next_asks = record { lies = g.asks.lies; apart = g.asks.apart; fits = omega (arith, g.asks.fits, run_long, rest_long, turns_done g.stands) }

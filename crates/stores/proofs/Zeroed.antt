@@ -6,36 +6,14 @@ use mathlib.Core.Logic.{⊎_elim, ◌≢◌}
 use native.Mathlib.Omega.{arith}
 use native.Mathlib.Nat.{mul-suc, mul-le-mul_left, div-add-mod, mod-lt}
 use borrow.Author.Tests.{eq-eqb, ne_eqb}
-use borrow.Rule.Slice.PartMut.{put_mid}
-use lib.ListN.{length, get_or, take, drop, replicate, length-take, length-drop, length-replicate}
+use lib.ListN.{length, get_or, replicate, length-replicate}
 use Rattle.lists.specs.Lists.{splice}
 use Rattle.lists.proofs.Cases.{below_or, same_or}
-use Rattle.lists.proofs.Splice.{length_part, put_mid_splice}
 use Rattle.sectors.specs.Sectors.{start_of, sector_of}
 use Rattle.chain.specs.Bytes.{chain_bytes}
 use Rattle.stores.specs.Stores.{write_bytes, tail_of, zero_tail, Writable, Outside}
 use Rattle.stores.proofs.Stored.{write_length, write_chain, write_apart, write_sector, write_none, write_run}
-use Rattle.chain.proofs.Standing.{Stands, stands_byte, lent_run}
-use Rattle.stores.proofs.Writing.{sector_back}
-
--- zeros over the part that is lent for them
-pub zeroed_run : (sector out : List ℕ) (x : ℕ) → x ≤ length sector → out ≡ replicate (length (take (length sector - x) (drop x sector))) 0
-    → put_mid x (length sector - x) sector out ≡ splice sector x (replicate (length sector - x) 0)
-zeroed_run sector out x h e =
-    let lent : length (take (length sector - x) (drop x sector)) ≡ length sector - x = simp (length-take, length-drop) (omega arith) in
-    let same : out ≡ replicate (length sector - x) 0 = e ∙ ap (λ (k : ℕ). replicate k 0) lent in
-    put_mid_splice x (length sector - x) sector out (ap length same ∙ length-replicate {A = ℕ} (length sector - x) 0) ∙ ap (splice sector x) same
-
--- a sector that was lent and comes back with zeros from x on
-pub zeros_back : (S id x : ℕ) (img out : List ℕ) → start_of S id + S ≤ length img → x ≤ S
-    → out ≡ splice (take (start_of S id + S - start_of S id) (drop (start_of S id) img)) x
-    (replicate (length (take (start_of S id + S - start_of S id) (drop (start_of S id) img)) - x) 0)
-    → put_mid (start_of S id) (start_of S id + S - start_of S id) img out ≡ splice img (start_of S id + x) (replicate (S - x) 0)
-zeros_back S id x img out h hx e =
-    let lent : length (take (start_of S id + S - start_of S id) (drop (start_of S id) img)) ≡ S =
-    ap length (lent_run img (start_of S id) S) ∙ length_part img (start_of S id) S h in
-    sector_back S id x img (replicate (S - x) 0) out h (rw (length-replicate {A = ℕ} (S - x) 0) (omega arith))
-    (e ∙ ap (λ (k : ℕ). splice (take (start_of S id + S - start_of S id) (drop (start_of S id) img)) x (replicate (k - x) 0)) lent)
+use Rattle.chain.proofs.Standing.{Stands, stands_byte}
 
 pub tail_none : (S o : ℕ) → o % S ≡ 0 → tail_of S o ≡ 0
 unfolding tail_of

@@ -5,31 +5,31 @@ use mathlib.Core.Bool.{true, false}
 use mathlib.Core.List.{List, ◌++◌}
 use mathlib.Core.Logic.{◌≢◌}
 use native.Mathlib.Omega.{arith}
+use Rattle.std.specs.Prelude.{Result, Ok, Err}
 use native.Mathlib.Numerals.{add-one}
 use lib.ListN.{length, get_or, set, take, drop}
 use lib.Seq.{take_at, drop_at}
 use Rattle.lists.specs.Lists.{tab}
 use Rattle.lists.proofs.Tab.{length_tab, filled_none, filled_more, length_filled}
 use Rattle.consts.specs.Consts.{max_regular, end_of_chain}
+use Rattle.consts.specs.Refusals.{number_of}
+use Rattle.consts.specs.declared.refusal.Refusal.{Refusal}
+use Rattle.consts.specs.declared.refusal.Refusal.TheVariants.{BadStart, BrokenChain, Loop}
 use Rattle.walk.specs.Walk.{Outcome, lists, refuses, leads, walk_of}
-use Rattle.walk.specs.Walked.{answer_of, Walkable, WalkLeft}
-use Rattle.walk.specs.declared.Walked.{Walked}
-use Rattle.walk.specs.declared.Walked.TheVariants.{Listed, Refused}
+use Rattle.walk.specs.Walked.{StandsFor, Walkable, WalkLeft}
 use Rattle.walk.specs.Steps.{stepped}
 use Rattle.walk.proofs.Steps.{stepped_next, stepped_none, Going, going_none, going_more, going_most}
 use Rattle.walk.proofs.Walking.{leads_true, leads_false, walk_past, walk_back, walk_bad, walk_ends}
 
 -- what is left where the walk's outcome is known
-left_refuses : (fat : List ℕ) (start : ℕ) (before after : List ℕ) (r : ℕ) → walk_of fat start ≡ refuses r → WalkLeft fat start before (Refused r) after
-unfolding answer_of
-left_refuses fat start before after r w =
-    record { answer = rw w; front = λ ids e. let z : ◌≡◌ {A = ℕ} 0 1 = cc in absurd (omega arith) }
+left_refuses : (fat : List ℕ) (start : ℕ) (before after : List ℕ) (e : Refusal) → walk_of fat start ≡ refuses (number_of e) → WalkLeft fat start before (Err e) after
+left_refuses fat start before after e w =
+    record { answer = rw w (e, refl, refl); front = λ ids o. let z : ◌≡◌ {A = ℕ} 0 1 = cc in absurd (omega arith) }
 
 left_lists : (fat : List ℕ) (start : ℕ) (before after ids : List ℕ) (k : ℕ) → walk_of fat start ≡ lists ids → length ids ≡ k → after ≡ ids ++ drop k before
-    → WalkLeft fat start before (Listed k) after
-unfolding answer_of
+    → WalkLeft fat start before (Ok k) after
 left_lists fat start before after ids k w e a =
-    record { answer = rw (w, e); front = λ l h. let same : l ≡ ids = cc in rw (same, e) a }
+    record { answer = rw w (ap Ok (sym e)); front = λ l h. let same : l ≡ ids = cc in rw (same, e) a }
 
 -- where the loop stands: count steps are taken and listed, and id, where they lead, is END or a sector and not the start
 pub record Walks (fat : List ℕ) (start : ℕ) (before ids : List ℕ) (id count : ℕ) : Type 0 where
@@ -52,9 +52,9 @@ walks_begun fat start before a t = record {
 
 -- the start is neither END nor a sector
 pub walks_past : (fat : List ℕ) (start : ℕ) (before : List ℕ) → length fat ≤ max_regular → leads (length fat) start ≡ false
-    → WalkLeft fat start before (Refused 20) before
+    → WalkLeft fat start before (Err BadStart) before
 walks_past fat start before few f =
-    let c = leads_false (length fat) start few f in left_refuses fat start before before 20 (walk_past fat start c.0 c.1)
+    let c = leads_false (length fat) start few f in left_refuses fat start before before BadStart (walk_past fat start c.0 c.1)
 
 module _ {fat : List ℕ} {start : ℕ} {before ids : List ℕ} {id count : ℕ} (g : Walks fat start before ids id count) where
   -- the steps so far met different sectors, so the list has room for their ids
@@ -65,7 +65,7 @@ module _ {fat : List ℕ} {start : ℕ} {before ids : List ℕ} {id count : ℕ}
   walks_length = ap length g.list ∙ length_filled (stepped fat start) before count walks_most
 
   -- the loop is over: END is met
-  pub walks_over : id ≡ end_of_chain → WalkLeft fat start before (Listed count) ids
+  pub walks_over : id ≡ end_of_chain → WalkLeft fat start before (Ok count) ids
   walks_over e =
       left_lists fat start before ids (tab (stepped fat start) count) count (walk_ends g.asks.few count g.going.path (sym g.here ∙ e))
       (length_tab (stepped fat start) count) g.list
@@ -100,31 +100,29 @@ module _ {fat : List ℕ} {start : ℕ} {before ids : List ℕ} {id count : ℕ}
           ∙ filled_more (stepped fat start) before count id (omega (arith, turn_most, g.asks.room)) g.here;
     }
 
-    pub turn_bad : (after : List ℕ) → leads (length fat) (get_or fat id 0) ≡ false → WalkLeft fat start before (Refused 21) after
+    pub turn_bad : (after : List ℕ) → leads (length fat) (get_or fat id 0) ≡ false → WalkLeft fat start before (Err BrokenChain) after
     turn_bad after f =
         let c = leads_false (length fat) (get_or fat id 0) g.asks.few f in
-        left_refuses fat start before after 21 (walk_bad g.asks.few turn_going turn_most (rw turn_next c.1) (rw turn_next c.0))
+        left_refuses fat start before after BrokenChain (walk_bad g.asks.few turn_going turn_most (rw turn_next c.1) (rw turn_next c.0))
 
-    pub turn_back : (after : List ℕ) → get_or fat id 0 ≡ start → WalkLeft fat start before (Refused 22) after
-    turn_back after e = left_refuses fat start before after 22 (walk_back g.asks.few turn_going turn_most (turn_next ∙ e))
+    pub turn_back : (after : List ℕ) → get_or fat id 0 ≡ start → WalkLeft fat start before (Err Loop) after
+    turn_back after e = left_refuses fat start before after Loop (walk_back g.asks.few turn_going turn_most (turn_next ∙ e))
 
 -- for callers: the outcome that an answer stands for, and the lent list
-answer_lists : (w : Outcome) (k : ℕ) → Listed k ≡ answer_of w → (ids : List ℕ) × (w ≡ lists ids) × (length ids ≡ k)
-unfolding answer_of
+answer_lists : (w : Outcome) (k : ℕ) → StandsFor w (Ok k) → (ids : List ℕ) × (w ≡ lists ids) × (length ids ≡ k)
 answer_lists (lists ids) k e = (ids, refl, cc)
-answer_lists (refuses r) k e = let z : ◌≡◌ {A = ℕ} 0 1 = cc in absurd (omega arith)
+answer_lists (refuses n) k (e, is, at) = cc
 
-answer_refuses : (w : Outcome) (x : ℕ) → Refused x ≡ answer_of w → w ≡ refuses x
-unfolding answer_of
-answer_refuses (lists ids) x e = let z : ◌≡◌ {A = ℕ} 0 1 = cc in absurd (omega arith)
-answer_refuses (refuses r) x e = let same : r ≡ x = cc in ap refuses same
+answer_refuses : (w : Outcome) (e : Refusal) → StandsFor w (Err e) → w ≡ refuses (number_of e)
+answer_refuses (lists ids) e is = cc
+answer_refuses (refuses n) e (d, is, at) = let same : d ≡ e = cc in ap refuses (sym at ∙ ap number_of same)
 
-module _ {fat : List ℕ} {start : ℕ} {before after : List ℕ} {r : Walked} (w : WalkLeft fat start before r after) where
-  pub left_refused : (x : ℕ) → r ≡ Refused x → walk_of fat start ≡ refuses x
-  left_refused x e = answer_refuses (walk_of fat start) x (sym e ∙ w.answer)
+module _ {fat : List ℕ} {start : ℕ} {before after : List ℕ} {r : Result ℕ Refusal} (w : WalkLeft fat start before r after) where
+  pub left_refused : (e : Refusal) → r ≡ Err e → walk_of fat start ≡ refuses (number_of e)
+  left_refused e is = answer_refuses (walk_of fat start) e (rw is at w.answer)
 
-  pub left_listed : (k : ℕ) → r ≡ Listed k → (walk_of fat start ≡ lists (take k after)) × (drop k after ≡ drop k before)
-  left_listed k e = of (answer_lists (walk_of fat start) k (sym e ∙ w.answer))
+  pub left_listed : (k : ℕ) → r ≡ Ok k → (walk_of fat start ≡ lists (take k after)) × (drop k after ≡ drop k before)
+  left_listed k e = of (answer_lists (walk_of fat start) k (rw e at w.answer))
     where
       of : (ids : List ℕ) × (walk_of fat start ≡ lists ids) × (length ids ≡ k) → (walk_of fat start ≡ lists (take k after)) × (drop k after ≡ drop k before)
       of (ids, o, l) =

@@ -18,7 +18,7 @@ pub returns : goal.returns
 unfolding part
 returns c =
     let case = c.args.case.now in
-    let version = version_at _ c.read32.ensures c.from_number-numbered.ensures c.in-Known.is in
+    let version = version_at _ c.read.ensures c.try_from.ensures c.in-Ok.is in
     λ e.
     write_agrees case version c.length_in-len.ensures c.header_in-header.ensures c.number_in.ensures
     (length-take-le _ _ (search rules)) (part_between case 476 c.length_in-len.result) (c.written_as.ensures e)

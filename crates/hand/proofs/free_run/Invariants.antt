@@ -1,12 +1,7 @@
--- The invariant: what is left to free from here on is the whole. A turn points the entry at FREE and lists the id.
-use Prim.Native.Nat.{◌-◌}
-use lib.ListN.{length}
-use Rattle.fat.specs.Lists.{room_of}
-use Rattle.hand.proofs.Freeing.{Freeing}
+-- The invariant: the ids so far are freed.
+use Rattle.hand.specs.Hand.{free_run}
+use Rattle.hand.specs.Held.{hand_in, HandBecomes}
 use Rattle.hand.proofs.free_run.Given as goal
 
-abbrev pub invariant-loop-j : goal.invariant-loop-j
-invariant-loop-j l = Freeing l.s (room_of l.s (length l.initial.image)) l.n l.free l.initial.image l.initial.fat l.fats l.initial.frees l.initial.marks l.ids l.from l.count l.image l.fat l.frees l.marks l.j
-
-abbrev pub decreases-loop-j : goal.decreases-loop-j
-decreases-loop-j l = l.count - l.j
+abbrev pub invariant-loop-id : goal.invariant-loop-id
+invariant-loop-id l = HandBecomes l.initial.hand l.hand (free_run l.initial.hand.len (hand_in l.initial.hand) l.ids l.from l.id-index)

@@ -1,9 +1,11 @@
--- A number that is no sector's leaves the marks.
-use Rattle.hand.proofs.Pointing.{marked_below, marked_past}
+use Rattle.std.proofs.Common.{rules}
+use Rattle.hand.specs.Hand.{marked}
 use Rattle.hand.proofs.set_mark.Goals as goal
 
-pub returns-then-i-n : goal.returns-then-i-n
-returns-then-i-n c = marked_below _ _ _ _ c.if-i-n.true
+pub returns-then-i-hand : goal.returns-then-i-hand
+unfolding marked
+returns-then-i-hand c = search rules
 
-pub returns-else-i-n : goal.returns-else-i-n
-returns-else-i-n c = marked_past _ _ _ _ c.if-i-n.false
+pub returns-else-i-hand : goal.returns-else-i-hand
+unfolding marked
+returns-else-i-hand c = search rules

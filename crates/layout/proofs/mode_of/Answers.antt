@@ -1,9 +1,12 @@
--- `layout::mode_of` meets its contract: its test is the definition's. Assumes nothing.
-use Rattle.layout.proofs.Placing.{mode_zero, mode_other}
+-- The match is the definition's test.
+use Rattle.std.proofs.Common.{rules}
+use Rattle.layout.specs.Layout.{mode_of}
 use Rattle.layout.proofs.mode_of.Goals as goal
 
-pub returns-then-mode-eq0 : goal.returns-then-mode-eq0
-returns-then-mode-eq0 c = mode_zero _ c.if-mode-eq0.true
+pub returns-in-0 : goal.returns-in-0
+unfolding mode_of
+returns-in-0 c = search rules
 
-pub returns : goal.returns
-returns c = mode_other _ c.if-mode-eq0.false
+pub returns-in_default : goal.returns-in_default
+unfolding mode_of
+returns-in_default c = search rules

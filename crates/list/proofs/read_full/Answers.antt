@@ -19,12 +19,12 @@ front a k m xs ys within long few =
     ∙ take-append-add (take a xs) (ys ++ drop (a + length ys) xs) m
     ∙ ap (λ (l : List ℕ). take a xs ++ l) (take-append-le m ys (drop (a + length ys) xs) few)
 
-pub loop-done-preserved : goal.loop-done-preserved
-loop-done-preserved g c =
-    let before = c.loop-done in
-    let placed = front before.done (length before.buf - before.done) c.in-Ok.n before.buf c.read.new.buf before.invariant.within (omega arith) (omega (arith, c.in-Ok.ensures.bound)) in
+pub loop-n-preserved : goal.loop-n-preserved
+loop-n-preserved g c =
+    let before = c.loop-n in
+    let placed = front before.done (length before.buf - before.done) c.in-Ok-1-to-max.n before.buf c.read.new.buf before.invariant.within (omega arith) (omega (arith, c.in-Ok-1-to-max.ensures.bound)) in
     let taken : List ℕ → Type 0 = λ bs. Consumes (g.R.Read.remaining c.args.input.now) (g.R.Read.remaining c.read.new.self) bs in
     record {
-      within = omega (arith, c.in-Ok.ensures.bound);
-      read = subst taken (sym placed) (Consumes-trans _ _ _ _ _ before.invariant.read c.in-Ok.ensures.bytes.0);
+      within = omega (arith, c.in-Ok-1-to-max.ensures.bound);
+      read = subst taken (sym placed) (Consumes-trans _ _ _ _ _ before.invariant.read c.in-Ok-1-to-max.ensures.bytes.0);
     }

@@ -10,19 +10,19 @@ returns-then-image-gt-MOST c = long_listing _ c.if-image-gt-MOST.true c.put_refu
 
 pub returns-in_default : goal.returns-in_default
 returns-in_default c =
-    refused_listing _ c.if-image-gt-MOST.false c.open_fat-verdict.ensures c.in_default.is c.number.ensures c.put_refused-in_default.ensures
+    refused_listing _ c.if-image-gt-MOST.false c.open_fat-opened.ensures c.in_default.is c.number.ensures c.put_refused-in_default.ensures
 
 pub slice_bounds-fat-end : goal.slice_bounds-fat-end
-slice_bounds-fat-end c = accepted_within c.open_fat-verdict.ensures c.in-Accepted.is
+slice_bounds-fat-end c = accepted_within c.open_fat-opened.ensures c.in-Ok.is
 
 pub slice_bounds-put_listed-end : goal.slice_bounds-put_listed-end
 slice_bounds-put_listed-end c =
-    sym (length-take-le _ _ (accepted_within c.open_fat-verdict.ensures c.in-Accepted.is))
+    sym (length-take-le _ _ (accepted_within c.open_fat-opened.ensures c.in-Ok.is))
 
 pub put_listed-requires : goal.put_listed-requires
 put_listed-requires c =
-    omega (arith, accepted_short c.if-image-gt-MOST.false c.open_fat-verdict.ensures c.in-Accepted.is)
+    omega (arith, accepted_short c.if-image-gt-MOST.false c.open_fat-opened.ensures c.in-Ok.is)
 
 pub returns : goal.returns
 returns c =
-    accepted_listing _ c.if-image-gt-MOST.false c.open_fat-verdict.ensures c.in-Accepted.is c.put_listed.ensures
+    accepted_listing _ c.if-image-gt-MOST.false c.open_fat-opened.ensures c.in-Ok.is c.put_listed.ensures

@@ -5,4 +5,4 @@ use Rattle.openings.proofs.opened_as.Goals as goal
 
 pub returns : goal.returns
 unfolding lent_tables
-returns c = λ e. opening_said _ _ c.mode_in.ensures c.open-opened.ensures c.number-number.ensures (c.record_says.ensures e)
+returns c = λ e. opening_said _ _ c.mode_in.ensures c.open-opened.ensures.opens c.number.ensures (rw (← c.as_ref.ensures) (c.record_says.ensures e))

@@ -1,11 +1,12 @@
 -- The test is the definition's.
-use native.Mathlib.Omega.{arith}
-use mathlib.Core.Path.{sym}
-use Rattle.reader.proofs.Serving.{place_moves, place_stays}
+use Rattle.std.proofs.Common.{rules}
+use Rattle.reader.specs.Serve.{place_after}
 use Rattle.reader.proofs.place_after.Goals as goal
 
-pub returns-then-place-gt-ENTRIES : goal.returns-then-place-gt-ENTRIES
-returns-then-place-gt-ENTRIES c = sym (place_stays c.args.place (omega (arith, c.if-place-gt-ENTRIES.true)))
+pub returns-then-place-le-ENTRIES : goal.returns-then-place-le-ENTRIES
+unfolding place_after
+returns-then-place-le-ENTRIES c = search rules
 
-pub returns : goal.returns
-returns c = sym (place_moves c.args.place (omega (arith, c.if-place-gt-ENTRIES.false)))
+pub returns-else-place-le-ENTRIES : goal.returns-else-place-le-ENTRIES
+unfolding place_after
+returns-else-place-le-ENTRIES c = search rules

@@ -1,7 +1,7 @@
--- `length_in` meets its contract: what `read16` reads. Assumes nothing.
+-- What `read` reads.
 use Rattle.records.specs.Records.{length_in}
 use Rattle.records.proofs.length_in.Goals as goal
 
 pub returns : goal.returns
 unfolding length_in
-returns c = c.read16.ensures
+returns c = c.read.ensures

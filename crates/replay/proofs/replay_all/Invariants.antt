@@ -1,11 +1,11 @@
--- `replay_all` ends and meets its contract: what is left of the records that it may replay falls at each turn, and each
--- turn adds its record to the count. Assumes nothing.
-use Rattle.std.proofs.Common.{◌-◌, ◌≤◌}
+-- Each turn adds its record to the count, and its place is the count before it and 1. Assumes nothing.
+use Rattle.std.proofs.Common.{◌≡◌, ◌+◌, ◌≤◌}
 use Rattle.replay.specs.Agrees.{Replays}
 use Rattle.replay.proofs.replay_all.Given as goal
 
-abbrev pub invariant-loop-answers : goal.invariant-loop-answers
-invariant-loop-answers g l = (l.answers ≤ 100000) × (l.differ ≤ l.answers) × Replays l.answers l.differ
-
-abbrev pub decreases-loop-answers : goal.decreases-loop-answers
-decreases-loop-answers g l = 100000 - l.answers
+abbrev pub invariant-loop-place : goal.invariant-loop-place
+invariant-loop-place g l = record {
+  place : l.place ≡ l.answers + 1;
+  few : l.differ ≤ l.answers;
+  counted : Replays l.answers l.differ;
+}

@@ -1,11 +1,11 @@
 -- What stays within the chain asks for none; else what is over is rounded up.
-use mathlib.Core.Path.{◌∙◌}
+use Prim.Native.Nat.{ℕ}
+use mathlib.Core.Path.{◌∙◌, ap}
 use native.Mathlib.Omega.{arith}
-use Rattle.room.proofs.Needing.{write_within, write_over}
+use Rattle.fat.specs.Lists.{ceil}
+use Rattle.room.proofs.Needing.{write_over}
 use Rattle.room.proofs.sectors_past.Goals as goal
 
-pub returns-then-bytes-rest : goal.returns-then-bytes-rest
-returns-then-bytes-rest c = let g = c.requires in write_within _ _ _ _ (omega (arith, g.0)) g.2 c.if-bytes-rest.true
-
 pub returns : goal.returns
-returns c = let g = c.requires in c.sectors_for.ensures ∙ write_over _ _ _ _ (omega (arith, g.0)) g.2 c.if-bytes-rest.false
+returns c = let g = c.requires in
+    c.sectors_for.ensures ∙ ap (λ (n : ℕ). ceil n c.args.s) c.saturating_sub.ensures ∙ write_over _ _ _ _ (omega (arith, g.0)) g.2

@@ -4,4 +4,4 @@ use Rattle.sectors.proofs.entry.Goals as goal
 
 pub returns : goal.returns
 unfolding entry_in
-returns c = c.read32.ensures
+returns c = c.read.ensures

@@ -1,12 +1,8 @@
 -- `states::state_with` meets its contract: so far the words below i stand behind four zeros.
-use Prim.Native.Nat.{◌≤◌, ◌-◌}
 use mathlib.Core.Path.{◌≡◌}
 use lib.ListN.{take, replicate}
 use Rattle.lists.specs.Lists.{splice}
 use Rattle.states.proofs.state_with.Given as goal
 
 abbrev pub invariant-loop-i : goal.invariant-loop-i
-invariant-loop-i l = (l.i ≤ 117) × (l.words ≡ splice (replicate 121 0) 4 (take l.i l.header))
-
-abbrev pub decreases-loop-i : goal.decreases-loop-i
-decreases-loop-i l = 117 - l.i
+invariant-loop-i l = l.words ≡ splice (replicate 121 0) 4 (take l.i l.header)

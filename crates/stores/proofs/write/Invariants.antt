@@ -1,11 +1,6 @@
--- The invariant: the first done bytes of buf are written. A turn copies a run of buf into the sector that the next byte goes to.
-use Prim.Native.Nat.{◌-◌}
-use lib.ListN.{length}
+-- The invariant: what is not left of buf is written. A turn copies a run of the rest into the next sector.
 use Rattle.stores.proofs.Writing.{Writing}
 use Rattle.stores.proofs.write.Given as goal
 
-abbrev pub invariant-loop-done : goal.invariant-loop-done
-invariant-loop-done l = Writing l.s l.initial.image l.ids l.offset l.buf l.image l.done
-
-abbrev pub decreases-loop-done : goal.decreases-loop-done
-decreases-loop-done l = length l.buf - l.done
+abbrev pub invariant-loop-id : goal.invariant-loop-id
+invariant-loop-id l = Writing l.s l.initial.image l.ids l.offset l.buf l.end l.id-index l.image l.x l.rest

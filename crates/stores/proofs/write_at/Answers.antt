@@ -1,12 +1,9 @@
--- The sector that is lent comes back with the run over it, so the image has the run there.
-use Prim.Native.Nat.{◌+◌}
+-- The part that is lent is as long as the run, so it comes back as the run.
+use mathlib.Core.Path.{◌∙◌, ap}
 use native.Mathlib.Omega.{arith}
-use Rattle.sectors.proofs.Laws.{scaled}
-use Rattle.stores.proofs.Writing.{sector_back}
+use Rattle.lists.specs.Lists.{splice}
+use Rattle.lists.proofs.Splice.{put_mid_splice}
 use Rattle.stores.proofs.write_at.Goals as goal
 
-pub overflow_add-a : goal.overflow_add-a
-overflow_add-a c = omega (arith, scaled (c.args.id + 1) c.args.s c.requires.s_nonzero.0)
-
 pub returns : goal.returns
-returns c = sector_back c.args.s c.args.id c.args.x _ _ _ c.requires.s_in_bounds c.requires.s_nonzero.1 c.copy_into.ensures
+returns c = put_mid_splice _ _ _ _ (omega (arith, c.copy_from_slice.ensures.len)) ∙ ap (splice c.args.image.now _) c.copy_from_slice.ensures.after

@@ -1,10 +1,13 @@
--- Past the end nothing is left; else the rest is lent and looked through.
-use mathlib.Core.Path.{◌∙◌}
-use Rattle.agree.proofs.Comparing.{zeros_none, zeros_rest}
+use Rattle.std.proofs.Common.{rules, ◌∙◌}
+use Rattle.std.proofs.lemmas.Iterator.{YieldsList-from_slice}
+use Rattle.points.proofs.Folding.{fold_all}
+use Rattle.agree.proofs.Comparing.{rest_lent}
 use Rattle.agree.proofs.alike.zeros_from.Goals as goal
 
-pub returns-then-xs-from : goal.returns-then-xs-from
-returns-then-xs-from c = zeros_none _ _ c.if-xs-from.true
-
 pub returns : goal.returns
-returns c = c.zeros.ensures ∙ zeros_rest c.args.xs.now c.args.from
+returns g c = (
+  c.default-zero.result,
+  c.default-zero.ensures,
+  fold_all (λ x. g.T.PartialEq.eq x c.default-zero.result) _ _ c.fold.ensures.ran
+      (YieldsList-from_slice _ (c.iter.ensures.rest ∙ rest_lent c.args.xs.now c.args.from c.min.result c.min.ensures)) (λ a x b f' k. search rules),
+)

@@ -1,6 +1,8 @@
 -- The places are listed into the room, and the room compared.
+use mathlib.Core.Path.{◌∙◌}
 use lib.ListN.{length}
 use Rattle.fat.specs.Loaded.{PlacesListed}
+use Rattle.agree.proofs.Comparing.{slices_same}
 use Rattle.agree.proofs.Listing.{places_as_long, places_unlisted, places_compared, places_room}
 use Rattle.agree.proofs.listed.are_places.Goals as goal
 use Rattle.agree.proofs.listed.are_places.Goals.{After-list_fats}
@@ -19,4 +21,4 @@ returns-then-not-list_fats c =
 pub returns : goal.returns
 returns c =
     let passed = goal.at.returns c in
-    places_compared _ _ _ _ _ _ _ _ _ _ (listed passed.After-list_fats) (c.if-not-list_fats.false) c.same_numbers.ensures
+    places_compared _ _ _ _ _ _ _ _ _ _ (listed passed.After-list_fats) (c.if-not-list_fats.false) (c.eq.ensures ∙ slices_same _ _)

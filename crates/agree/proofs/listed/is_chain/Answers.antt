@@ -1,6 +1,8 @@
 -- The chain is listed into the room, and the room compared.
+use mathlib.Core.Path.{◌∙◌}
 use lib.ListN.{length}
 use Rattle.fat.specs.Loaded.{ChainListed}
+use Rattle.agree.proofs.Comparing.{slices_same}
 use Rattle.agree.proofs.Listing.{chain_as_long, chain_unlisted, chain_compared}
 use Rattle.agree.proofs.listed.is_chain.Goals as goal
 use Rattle.agree.proofs.listed.is_chain.Goals.{After-list_difats}
@@ -19,4 +21,4 @@ returns-then-not-list_difats c =
 pub returns : goal.returns
 returns c =
     let passed = goal.at.returns c in
-    chain_compared _ _ _ _ _ _ _ _ _ (listed passed.After-list_difats) (c.if-not-list_difats.false) c.same_numbers.ensures
+    chain_compared _ _ _ _ _ _ _ _ _ (listed passed.After-list_difats) (c.if-not-list_difats.false) (c.eq.ensures ∙ slices_same _ _)

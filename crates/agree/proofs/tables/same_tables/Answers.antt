@@ -11,10 +11,10 @@ use Rattle.agree.proofs.Accepting.{tables_lists, tables_tail, tables_fat, tables
 use Rattle.agree.proofs.tables.same_tables.Goals as goal
 use Rattle.agree.proofs.tables.same_tables.Goals.{After-same_lists, Else-not-same_lists}
 
-room : (c : After-same_lists) → length c.args.fat.now ≤ length c.same_lists.new.scratch
+room : (c : After-same_lists) → length c.args.tables.fat.now ≤ length c.same_lists.new.scratch
 room c = omega (arith, c.same_lists.auto.scratch, c.requires.below)
 
-right : (c : Else-not-same_lists) → lists_same c.args.s c.args.image.now c.args.h (length c.args.fat.now) c.args.fats.now c.args.difats.now ≡ true
+right : (c : Else-not-same_lists) → lists_same c.args.s c.args.image.now c.args.h (length c.args.tables.fat.now) c.args.tables.fats.now c.args.tables.difats.now ≡ true
 right c = sym c.same_lists.ensures ∙ c.if-not-same_lists.false
 
 pub same_lists-requires : goal.same_lists-requires

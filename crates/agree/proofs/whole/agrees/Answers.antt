@@ -2,56 +2,74 @@
 use Prim.Native.Nat.{ℕ}
 use mathlib.Core.Path.{◌≡◌, sym, ◌∙◌, ap}
 use mathlib.Core.Bool.{true}
+use Rattle.std.proofs.lemmas.Result.{IfOk-at_ok}
+use Rattle.tables.specs.Tables.{Tables, tables_of}
 use Rattle.lists.specs.Rows.{refusal}
-use Rattle.alloc.specs.Opening.{Tables, first_rows, shortest}
-use Rattle.alloc.proofs.First.{early_len, early_sectors, early_own}
+use Rattle.consts.specs.Refusals.{ends_with}
+use Rattle.consts.proofs.Refusals.{number_not}
+use Rattle.alloc.specs.Early.{early_of}
+use Rattle.alloc.specs.Opening.{first_rows, shortest}
+use Rattle.alloc.specs.declared.early.Early.{Early}
 use Rattle.agree.specs.Agree.{same_header}
+use Rattle.agree.proofs.Comparing.{headers_differ, headers_same}
 use Rattle.agree.proofs.Agreeing.{agree_early, agree_header, agree_count, agree_free, agree_told, agree_lent}
 use Rattle.agree.proofs.whole.agrees.Goals as goal
-use Rattle.agree.proofs.whole.agrees.Goals.{After-judge_early-early, Else-no-ne0, Else-not-same_header}
+use Rattle.agree.proofs.whole.agrees.Goals.{After-judge_early, Else-ne, In-Ok}
 
-abbrev tables : After-judge_early-early → Tables
-tables c = record { fat = c.args.fat.now; fats = c.args.fats.now; difats = c.args.difats.now; frees = c.args.frees.now; marks = c.args.marks.now }
+abbrev tables : After-judge_early → Tables
+tables c = tables_of c.args.tables
 
--- the number that is judged first is that of the first rows, and 0 where it is passed
-first : (c : After-judge_early-early) → c.judge_early-early.result.no ≡ refusal (first_rows c.args.mode c.args.image.now c.args.used (shortest (tables c)))
-first c = c.judge_early-early.ensures.number ∙ ap (λ (k : ℕ). refusal (first_rows c.args.mode c.args.image.now c.args.used k)) c.shortest-short.ensures
+-- the number that is judged first is that of the first rows
+first : (c : After-judge_early) → ends_with c.judge_early.result ≡ refusal (first_rows c.args.mode c.args.image.now c.args.used (shortest (tables c)))
+first c = c.judge_early.ensures.number ∙ ap (λ (k : ℕ). refusal (first_rows c.args.mode c.args.image.now c.args.used k)) c.shortest.ensures
 
-passed : (c : Else-no-ne0) (k : ℕ) → c.judge_early-early.result.no ≡ k → k ≡ 0
-passed c k first = sym first ∙ c.if-no-ne0.false
+-- where it is 0, what is known of the image
+passed : (c : In-Ok) (k : ℕ) → ends_with c.judge_early.result ≡ k → k ≡ 0
+passed c k e = sym e ∙ ap ends_with c.in-Ok.is
+
+known : (c : In-Ok) → c.in-Ok.early ≡ early_of c.args.image.now c.args.used
+known c = IfOk-at_ok _ c.in-Ok.is c.judge_early.ensures.early
 
 -- the header that was handed in is the one that was read
-own_header : (c : Else-not-same_header) → same_header c.args.h c.judge_early-early.result.header ≡ true
-own_header c = sym c.same_header.ensures ∙ c.if-not-same_header.false
+own_header : (c : Else-ne) → same_header c.args.found.header c.in-Ok.early.header ≡ true
+own_header c = headers_same _ _ _ c.ne.ensures c.if-ne.false
 
-pub returns-then-no-ne0 : goal.returns-then-no-ne0
-returns-then-no-ne0 c =
-    let at = goal.at.returns-then-no-ne0 c in
-    agree_early _ _ _ _ _ _ (tables at.After-judge_early-early) (λ z. c.if-no-ne0.true (first at.After-judge_early-early ∙ z))
+pub returns-in_default : goal.returns-in_default
+returns-in_default c =
+    let at = goal.at.returns-in_default c in
+    agree_early _ _ _ _ _ _ (tables at.After-judge_early) (λ z. number_not c.in_default.field-0 (sym (ap ends_with c.in_default.is) ∙ first at.After-judge_early ∙ z))
 
-pub returns-then-not-same_header : goal.returns-then-not-same_header
-returns-then-not-same_header c =
-    let at = goal.at.returns-then-not-same_header c in
-    agree_header _ _ _ _ _ _ (tables at.After-judge_early-early) _ (early_own c.judge_early-early.ensures c.if-no-ne0.false) (sym c.same_header.ensures ∙ c.if-not-same_header.true)
+pub returns-then-ne : goal.returns-then-ne
+unfolding early_of
+returns-then-ne c =
+    let at = goal.at.returns-then-ne c in
+    agree_header _ _ _ _ _ _ (tables at.After-judge_early) _ (ap (λ (e : Early). e.header) (known at.In-Ok)) (headers_differ _ _ _ c.ne.ensures c.if-ne.true)
 
-pub returns-then-sectors-n : goal.returns-then-sectors-n
-returns-then-sectors-n c =
-    let at = goal.at.returns-then-sectors-n c in
-    agree_count _ _ _ _ _ _ (tables at.After-judge_early-early) _ (early_sectors c.judge_early-early.ensures c.if-no-ne0.false) c.if-sectors-n.true
+pub returns-then-found-early : goal.returns-then-found-early
+unfolding early_of
+returns-then-found-early c =
+    let at = goal.at.returns-then-found-early c in
+    agree_count _ _ _ _ _ _ (tables at.After-judge_early) _ (ap (λ (e : Early). e.sectors) (known at.In-Ok)) c.if-found-early.true
 
-pub returns-then-n-free : goal.returns-then-n-free
-returns-then-n-free c =
-    let at = goal.at.returns-then-n-free c in
-    agree_free _ _ _ _ _ _ (tables at.After-judge_early-early) _ (early_sectors c.judge_early-early.ensures c.if-no-ne0.false) c.if-n-free.true
+pub returns-then-found : goal.returns-then-found
+unfolding early_of
+returns-then-found c =
+    let at = goal.at.returns-then-found c in
+    agree_free _ _ _ _ _ _ (tables at.After-judge_early) _ (c.if-found-early.false ∙ ap (λ (e : Early). e.sectors) (known at.In-Ok)) c.if-found.true
 
 pub same_whole-requires : goal.same_whole-requires
+unfolding early_of
 same_whole-requires c =
     let at = goal.at.same_whole-requires c in
-    let says = c.judge_early-early.ensures in
-    agree_lent _ _ _ c.args.sectors _ _ (tables at.After-judge_early-early) (passed at.Else-no-ne0 _ (first at.After-judge_early-early)) _ _ _ _ (early_len says c.if-no-ne0.false) (early_sectors says c.if-no-ne0.false) (early_own says c.if-no-ne0.false) (own_header at.Else-not-same_header) c.if-n-free.false c.requires
+    let is = known at.In-Ok in
+    let few = rw c.if-found-early.false at c.if-found.false in
+    agree_lent _ _ _ c.args.found.sectors _ _ (tables at.After-judge_early) (passed at.In-Ok _ (first at.After-judge_early)) _ _ _ _ (ap (λ (e : Early). e.len) is) (ap (λ (e : Early). e.sectors) is) (ap (λ (e : Early). e.header) is)
+    (own_header at.Else-ne) few c.requires
 
 pub returns : goal.returns
+unfolding early_of
 returns c =
     let at = goal.at.returns c in
-    let says = c.judge_early-early.ensures in
-    agree_told _ _ _ _ _ _ (tables at.After-judge_early-early) (passed at.Else-no-ne0 _ (first at.After-judge_early-early)) _ _ _ _ _ c.is_strict-strict.ensures (early_len says c.if-no-ne0.false) (early_sectors says c.if-no-ne0.false) (early_own says c.if-no-ne0.false) (own_header at.Else-not-same_header) c.if-sectors-n.false c.same_whole.ensures
+    let is = known at.In-Ok in
+    agree_told _ _ _ _ _ _ (tables at.After-judge_early) (passed at.In-Ok _ (first at.After-judge_early)) _ _ _ _ _ c.is_strict.ensures (ap (λ (e : Early). e.len) is) (ap (λ (e : Early). e.sectors) is) (ap (λ (e : Early). e.header) is)
+    (own_header at.Else-ne) c.if-found-early.false c.same_whole.ensures

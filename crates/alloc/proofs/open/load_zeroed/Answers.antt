@@ -1,27 +1,66 @@
--- A refused loading is that of `fill_tables`; otherwise the FREE sectors are listed into zeros, by `listed_filled`.
-use mathlib.Core.Path.{◌≡◌, sym}
+-- The counts computed are those that n sectors ask for, and each table is loaded into a front of that count: `filled`.
+use Prim.Native.Nat.{ℕ, ◌-◌, ◌≤◌}
+use mathlib.Core.Path.{◌≡◌, sym, ◌∙◌, ap}
 use native.Mathlib.Omega.{arith}
-use lib.ListN.{length, take}
+use lib.ListN.{length, take, replicate}
 use lib.Seq.{length-take-le}
-use Rattle.alloc.proofs.Filled.{listed_filled, tables_refused}
+use Rattle.sectors.specs.Sectors.{per_sector}
+use Rattle.fat.specs.Lists.{fat_count, difat_count, ceil}
+use Rattle.fat.specs.Loaded.{Counted}
+use Rattle.fat.proofs.Listing.{ceil_few, fats_few, difats_few}
+use Rattle.alloc.proofs.Filled.{zero_front, zeroed_counted, counted_same, filled}
 use Rattle.alloc.proofs.open.load_zeroed.Goals as goal
-use Rattle.alloc.proofs.open.load_zeroed.Goals.{After-list_free-arg-1}
+use Rattle.alloc.proofs.open.load_zeroed.Goals.{After-ceil-d}
 
--- the front that is listed has n entries
-front : (c : After-list_free-arg-1) → length (take c.args.n c.fill_tables-no.new.fat) ≡ c.args.n
-front c = length-take-le _ _ (omega (arith, c.fill_tables-no.auto.fat, c.requires.fat_long))
+module _ (c : After-ceil-d) where
+  -- the counts that the code computes are those that n sectors ask for
+  count_fats : c.ceil-k.result ≡ fat_count c.args.s c.args.n
+  unfolding fat_count
+  count_fats = c.ceil-k.ensures
 
-pub returns-then-no-ne0 : goal.returns-then-no-ne0
-returns-then-no-ne0 c = tables_refused _ _ _ _ _ _ _ _ _ _ _ _ _ _ _ _ c.fill_tables-no.ensures c.if-no-ne0.true
+  count_difats : c.ceil-d.result ≡ difat_count c.args.s c.ceil-k.result
+  unfolding difat_count
+  count_difats = c.ceil-d.ensures ∙ ap (λ (k : ℕ). ceil k (per_sector c.args.s - 1)) c.saturating_sub.ensures
 
-pub slice_bounds-list_free-end-2 : goal.slice_bounds-list_free-end-2
-slice_bounds-list_free-end-2 c =
-    sym (length-take-le _ _ (omega (arith, c.fill_tables-no.auto.fat, c.requires.fat_long)))
+  counted : Counted c.args.s c.args.n (length c.args.image.now) c.ceil-k.result c.ceil-d.result
+  counted = zeroed_counted c.requires count_fats count_difats
 
-pub list_free-free-requires : goal.list_free-free-requires
-list_free-free-requires c =
-    record { fat_in_bounds = omega (arith, front c, c.fill32.auto.dst, c.fill_tables-no.auto.scratch, c.requires.scratch_long); fat_len_bound = omega (arith, front c, c.requires.few) }
+  -- so many sectors' ids fit into the lent lists
+  fats_fit : c.ceil-k.result ≤ length c.args.tables.now.fats.now
+  fats_fit = omega (arith, fats_few _ _ _ _ _ counted, c.requires.fats_long)
 
-pub returns : goal.returns
-returns c =
-    listed_filled _ _ _ _ _ _ _ _ _ _ _ _ _ _ _ _ _ _ _ c.if-no-ne0.false c.fill_tables-no.ensures c.fill32.ensures c.fill_tables-no.auto.scratch c.list_free-free.ensures
+  difats_fit : c.ceil-d.result ≤ length c.args.tables.now.difats.now
+  difats_fit = omega (arith, difats_few _ _ _ _ _ counted, c.requires.difats_long)
+
+pub ceil-d-requires : goal.ceil-d-requires
+ceil-d-requires c =
+    (omega (arith, c.requires.holds.two), omega (arith, c.saturating_sub.ensures, c.ceil-k.ensures, ceil_few c.args.n (per_sector c.args.s) (omega (arith, c.requires.holds.two)), c.requires.short, c.requires.few))
+
+pub slice_bounds-load_tables-end-3 : goal.slice_bounds-load_tables-end-3
+slice_bounds-load_tables-end-3 c = fats_fit (goal.at.slice_bounds-load_tables-end-3 c).After-ceil-d
+
+pub slice_bounds-load_tables-end-4 : goal.slice_bounds-load_tables-end-4
+slice_bounds-load_tables-end-4 c = sym (length-take-le _ _ (fats_fit (goal.at.slice_bounds-load_tables-end-4 c).After-ceil-d))
+
+pub slice_bounds-load_tables-end-5 : goal.slice_bounds-load_tables-end-5
+slice_bounds-load_tables-end-5 c = difats_fit (goal.at.slice_bounds-load_tables-end-5 c).After-ceil-d
+
+pub slice_bounds-load_tables-end-6 : goal.slice_bounds-load_tables-end-6
+slice_bounds-load_tables-end-6 c = sym (length-take-le _ _ (difats_fit (goal.at.slice_bounds-load_tables-end-6 c).After-ceil-d))
+
+pub load_tables-requires : goal.load_tables-requires
+load_tables-requires c =
+    let at = (goal.at.load_tables-requires c).After-ceil-d in
+    let n : length (take c.args.n c.args.tables.now.fat.now) ≡ c.args.n = length-take-le _ _ c.requires.fat_long in
+    record {
+      counted = counted_same _ _ _ _ _ _ _ _ n (length-take-le _ _ (fats_fit at)) (length-take-le _ _ (difats_fit at)) (counted at);
+      fat_in_bounds = omega (arith, n, c.requires.frees_long);
+      marks_value = zero_front _ _ c.requires.marks_zero c.requires.marks_long ∙ ap (λ (m : ℕ). replicate m 0) (sym n);
+    }
+
+pub returns-clause-filled : goal.returns-clause-filled
+returns-clause-filled c =
+    let at = (goal.at.returns-clause-filled c).After-ceil-d in
+    let new = c.load_tables.new in
+    filled c.requires {o = record { fat = new.fat; fats = new.fats; difats = new.difats; frees = new.frees; marks = new.marks }}
+    (length-take-le _ _ c.requires.fat_long) (count_fats at) (count_difats at) c.load_tables.ensures

@@ -1,51 +1,45 @@
 -- Each return is one of the three ends of Opens.
-use Prim.Native.Nat.{ℕ}
 use mathlib.Core.Path.{◌≡◌, sym, ◌∙◌, ap}
-use mathlib.Core.List.{List}
+use Rattle.std.proofs.lemmas.Result.{err_from_is_err_and}
 use Rattle.lists.specs.Rows.{refusal}
-use Rattle.alloc.specs.Opening.{Tables, first_rows, shortest}
-use Rattle.alloc.proofs.First.{early_len, early_sectors, early_own}
-use Rattle.alloc.proofs.Opens.{opens_early, opens_lent, opens_refused, opens, loaded_own, lent_own, found_own}
+use Rattle.tables.specs.Tables.{tables_in, shortest}
+use Rattle.alloc.specs.declared.early.Early.{Early}
+use Rattle.alloc.specs.Early.{early_of}
+use Rattle.alloc.specs.Opening.{first_rows}
+use Rattle.alloc.proofs.Opens.{opens_early, opens_lent, opens_refused, opens, lent_own}
 use Rattle.alloc.proofs.open.open_tables.Goals as goal
-use Rattle.alloc.proofs.open.open_tables.Goals.{After-judge_early-early, After-load_all-arg-5-1}
+use Rattle.alloc.proofs.open.open_tables.Goals.{After-shortest, In_ok-early}
 
-abbrev img : After-judge_early-early → List ℕ
-img c = c.args.image.now
+-- the shortest table is that of the lists that are lent
+short : (c : After-shortest) → c.shortest.result ≡ shortest (tables_in c.args.tables.now)
+short c = c.shortest.ensures ∙ ap shortest c.as_ref.ensures
 
-abbrev tables : After-judge_early-early → Tables
-tables c = record { fat = c.args.fat.now; fats = c.args.fats.now; difats = c.args.difats.now; frees = c.args.frees.now; marks = c.args.marks.now }
+-- no table is refused before the first is touched
+passed : (c : In_ok-early) → c.shortest.result ≡ shortest (tables_in c.args.tables.now) → refusal (first_rows c.args.validation c.args.image.now c.args.used (shortest (tables_in c.args.tables.now))) ≡ 0
+passed c short = sym (rw short at c.in_ok-early.ensures.number)
 
--- the number that is judged first is that of the first rows
-first : (c : After-judge_early-early) → c.judge_early-early.result.no ≡ refusal (first_rows c.args.validation (img c) c.args.used (shortest (tables c)))
-first c = c.judge_early-early.ensures.number ∙ ap (λ (k : ℕ). refusal (first_rows c.args.validation (img c) c.args.used k)) c.shortest-short.ensures
+pub returns-in_err-early-clause-says : goal.returns-in_err-early-clause-says
+returns-in_err-early-clause-says c =
+    let at = goal.at.returns-in_err-early-clause-says c in
+    let e = err_from_is_err_and c.from_residual.result c.from_residual.ensures.1 in
+    rw (e.1, e.2) (opens_early _ _ _ _ _ (rw (short at.After-shortest) at c.in_err-early.ensures.number))
 
-zero : (c : After-load_all-arg-5-1) (k : ℕ) → c.judge_early-early.result.no ≡ k → k ≡ 0
-zero c k first = sym first ∙ c.if-no-ne0.false
+pub load_all-requires : goal.load_all-requires
+unfolding early_of
+load_all-requires c =
+    let at = goal.at.load_all-requires c in
+    let own = c.in_ok-early.ensures.early in
+    lent_own (ap (λ (e : Early). e.len) own) (ap (λ (e : Early). e.sectors) own) (opens_lent _ _ _ _ (passed at.In_ok-early (short at.After-shortest)))
 
-pub returns-then-no-ne0 : goal.returns-then-no-ne0
-returns-then-no-ne0 c =
-    let passed = goal.at.returns-then-no-ne0 c in
-    opens_early _ _ _ (tables passed.After-judge_early-early) _ _ c.nothing.ensures (first passed.After-judge_early-early) c.if-no-ne0.true
+pub returns-in_err-free-clause-says : goal.returns-in_err-free-clause-says
+returns-in_err-free-clause-says c =
+    let at = goal.at.returns-in_err-free-clause-says c in
+    let r = c.from_residual-in_err-free in
+    let e = err_from_is_err_and r.result r.ensures.1 in
+    rw (e.1, e.2)
+    (opens_refused _ _ _ _ (passed at.In_ok-early (short at.After-shortest)) c.is_strict-strict.ensures c.in_ok-early.ensures.early _ c.in_err-free.ensures.loaded)
 
-pub load_all-filled-requires : goal.load_all-filled-requires
-load_all-filled-requires c =
-    let passed = goal.at.load_all-filled-requires c in
-    let e = c.judge_early-early.ensures in
-    let z = c.if-no-ne0.false in
-    lent_own _ _ _ _ _ _ _ _ _ _ (early_len e z) (early_sectors e z) (opens_lent _ _ _ (tables passed.After-judge_early-early) (zero c _ (first passed.After-judge_early-early)))
-
-pub returns-then-no-ne0-2 : goal.returns-then-no-ne0-2
-returns-then-no-ne0-2 c =
-    let passed = goal.at.returns-then-no-ne0-2 c in
-    let e = c.judge_early-early.ensures in
-    let z = c.if-no-ne0.false in
-    opens_refused _ _ _ (tables passed.After-judge_early-early) (zero passed.After-load_all-arg-5-1 _ (first passed.After-judge_early-early)) _ _ _ _ _ _
-    (loaded_own _ _ _ _ _ _ _ _ _ _ _ _ _ _ _ _ _ _ _ _ c.is_strict-strict.ensures (early_len e z) (early_own e z) (early_sectors e z) c.load_all-filled.ensures) _ c.nothing-then-no-ne0-2.ensures c.if-no-ne0-2.true
-
-pub returns : goal.returns
-returns c =
-    let passed = goal.at.returns c in
-    let e = c.judge_early-early.ensures in
-    let z = c.if-no-ne0.false in
-    opens _ _ _ (tables passed.After-judge_early-early) (zero passed.After-load_all-arg-5-1 _ (first passed.After-judge_early-early)) _ _ _ _ _ _
-    (loaded_own _ _ _ _ _ _ _ _ _ _ _ _ _ _ _ _ _ _ _ _ c.is_strict-strict.ensures (early_len e z) (early_own e z) (early_sectors e z) c.load_all-filled.ensures) _ (found_own _ _ _ _ _ (early_sectors e z) (early_own e z)) c.if-no-ne0-2.false
+pub returns-clause-says : goal.returns-clause-says
+returns-clause-says c =
+    let at = goal.at.returns-clause-says c in
+    opens _ _ _ _ (passed at.In_ok-early (short at.After-shortest)) c.is_strict-strict.ensures c.in_ok-early.ensures.early c.in_ok-free.ensures.loaded

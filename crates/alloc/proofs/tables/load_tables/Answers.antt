@@ -5,8 +5,10 @@ use mathlib.Core.Bool.{true}
 use native.Mathlib.Omega.{arith}
 use Rattle.fat.specs.Loaded.{Covers}
 use lib.ListN.{length, replicate}
+use Rattle.std.proofs.Common.{rules}
+use Rattle.std.proofs.lemmas.Result.{err_from_is_err_and}
 use Rattle.fat.proofs.Differing.{below_kept}
-use Rattle.alloc.proofs.Opening.{lists_fats, lists_difats, lists_cover, tables_12, tables_13, tables_judged}
+use Rattle.alloc.proofs.Opening.{lists_fats, lists_difats, lists_cover, tables_12, tables_13, tables_wrong, tables_judged}
 use Rattle.alloc.proofs.tables.load_tables.Goals as goal
 use Rattle.alloc.proofs.tables.load_tables.Goals.{Else-not-load_lists}
 
@@ -18,15 +20,13 @@ covers : (c : Else-not-load_lists) → Covers c.args.s (length c.args.fat.now) (
 covers c = lists_cover _ _ _ _ _ _ _ c.load_lists.ensures (right c) _ _ _ c.requires.counted c.load_lists.auto.fats
 
 pub returns-then-not-load_lists : goal.returns-then-not-load_lists
-returns-then-not-load_lists c = tables_12 _ _ _ _ _ _ _ _ _ _ c.load_lists.ensures (c.if-not-load_lists.true)
+returns-then-not-load_lists c = tables_12 _ _ _ _ _ _ c.load_lists.ensures c.if-not-load_lists.true
 
 pub tail_free-requires : goal.tail_free-requires
 tail_free-requires c = covers c
 
 pub returns-then-not-tail_free : goal.returns-then-not-tail_free
-returns-then-not-tail_free c =
-    let passed = goal.at.returns-then-not-tail_free c in
-    tables_13 _ _ _ _ _ _ _ _ c.load_lists.ensures (right passed.Else-not-load_lists) _ _ _ c.tail_free.ensures (c.if-not-tail_free.true)
+returns-then-not-tail_free c = tables_13 _ _ _ _ _ _ c.load_lists.ensures c.if-not-load_lists.false c.tail_free.ensures c.if-not-tail_free.true
 
 pub load_fat-requires : goal.load_fat-requires
 load_fat-requires c =
@@ -46,8 +46,13 @@ judge_fat-requires c =
       marks_value = c.requires.marks_value ∙ ap (λ (m : ℕ). replicate m 0) (sym k);
     }
 
+pub returns-in_err-judge_fat : goal.returns-in_err-judge_fat
+returns-in_err-judge_fat c =
+    let e = err_from_is_err_and c.from_residual.result c.from_residual.ensures.1 in
+    rw (e.1, e.2)
+    (tables_wrong _ _ _ _ _ _ c.load_lists.ensures c.if-not-load_lists.false c.tail_free.ensures c.if-not-tail_free.false c.load_fat.ensures c.load_fat.auto.fat {o = record { fat = c.judge_fat.new.fat; fats = c.load_lists.new.fats; difats = c.load_lists.new.difats; frees = c.load_lists.new.scratch; marks = c.judge_fat.new.marks }} c.in_err-judge_fat.ensures)
+
 pub returns : goal.returns
 returns c =
-    let passed = goal.at.returns c in
-    tables_judged _ _ _ _ _ _ _ _ c.load_lists.ensures (right passed.Else-not-load_lists) _ _ _ _ _ c.tail_free.ensures (c.if-not-tail_free.false)
-    c.load_fat.ensures c.load_fat.auto.fat c.judge_fat.ensures
+    tables_judged _ _ _ _ _ _ c.load_lists.ensures c.if-not-load_lists.false c.tail_free.ensures c.if-not-tail_free.false c.load_fat.ensures c.load_fat.auto.fat
+    c.in_ok-judge_fat.ensures (search rules) c.load_lists.auto.scratch c.list_free.ensures

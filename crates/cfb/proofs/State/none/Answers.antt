@@ -4,4 +4,4 @@ use Rattle.cfb.proofs.State.none.Goals as goal
 
 pub returns : goal.returns
 unfolding no_state
-returns c = rw c.none-header.ensures
+returns c = rw c.none.ensures

@@ -5,7 +5,8 @@ use mathlib.Core.Bool.{true, false}
 use lib.Dec.{ltb}
 use lib.ListN.{length, replicate}
 use Rattle.fat.specs.Lists.{room_of}
-use Rattle.alloc.specs.Opening.{Tables, shortest}
+use Rattle.tables.specs.Tables.{Tables, tables_of}
+use Rattle.alloc.specs.Opening.{shortest}
 use Rattle.agree.proofs.Meaning.{agrees_exactly}
 use Rattle.cfb.specs.Calls.{state_len}
 use Rattle.cfb.proofs.Agreed.{Chained, agreed_chained}
@@ -14,23 +15,23 @@ use Rattle.cfb.proofs.calls.chain_of.Goals as goal
 use Rattle.cfb.proofs.calls.chain_of.Goals.{After-agrees, After-room_of}
 
 abbrev tables : After-room_of → Tables
-tables c = record { fat = c.args.fat.now; fats = c.args.fats.now; difats = c.args.difats.now; frees = c.args.frees.now; marks = c.args.marks.now }
+tables c = tables_of c.args.tables
 
 -- the shortest of all, and the room, are those of the row
-short_is : (c : After-room_of) → c.lesser-short.result ≡ min (shortest (tables c)) (length c.args.ids.now)
-short_is c = c.lesser-short.ensures.2 ∙ ap (λ (n : ℕ). min n (length c.args.ids.now)) c.shortest.ensures
+short_is : (c : After-room_of) → c.min-short.result ≡ min (shortest (tables c)) (length c.args.ids.now)
+short_is c = c.min-short.ensures ∙ ap (λ (n : ℕ). min n (length c.args.ids.now)) c.shortest.ensures
 
-long_enough : (c : After-agrees) (least : ℕ) → c.lesser-short.result ≡ least → ltb least (room_of (state_len c.args.s) (length c.args.image.now)) ≡ false
+long_enough : (c : After-agrees) (least : ℕ) → c.min-short.result ≡ least → ltb least (room_of (state_len c.args.s) (length c.args.image.now)) ≡ false
 long_enough c least short = room_long short c.room_of.ensures c.if-short-room_of.false
 
 list_kept : (c : After-agrees) → length c.agrees.new.scratch ≡ length c.args.ids.now
 list_kept c = c.agrees.auto.scratch
 
 -- what agrees can be walked
-walkable : (c : After-agrees) → c.agrees.result ≡ true → Chained (state_len c.args.s) c.args.image.now c.args.fat.now c.args.s.sectors
+walkable : (c : After-agrees) → c.agrees.result ≡ true → Chained (state_len c.args.s) c.args.image.now c.args.tables.fat.now c.args.s.sectors
 walkable c e =
     let s = c.args.s in
-    let tables : Tables = record { fat = c.args.fat.now; fats = c.args.fats.now; difats = c.args.difats.now; frees = c.args.frees.now; marks = c.args.marks.now } in
+    let tables : Tables = tables_of c.args.tables in
     agreed_chained s.mode _ s.used s.sectors s.free s.header tables
     ((agrees_exactly s.mode _ s.used s.sectors s.free s.header tables).0 (sym c.agrees.ensures ∙ e))
 
@@ -42,7 +43,7 @@ returns-then-short-room_of c =
 pub returns-then-not-agrees : goal.returns-then-not-agrees
 returns-then-not-agrees c =
     let passed = goal.at.returns-then-not-agrees c in
-    listed_apart _ _ (tables passed.After-room_of) _ _ (long_enough passed.After-agrees _ (short_is passed.After-room_of)) _ (sym c.agrees.ensures ∙ c.if-not-agrees.true) (c.fill32.ensures ∙ ap (λ (n : ℕ). replicate n 0) (list_kept passed.After-agrees))
+    listed_apart _ _ (tables passed.After-room_of) _ _ (long_enough passed.After-agrees _ (short_is passed.After-room_of)) _ (sym c.agrees.ensures ∙ c.if-not-agrees.true) (c.fill.ensures.after (λ y e. e) ∙ ap (λ (n : ℕ). replicate n 0) (list_kept passed.After-agrees))
 
 pub slice_bounds-walk-end : goal.slice_bounds-walk-end
 slice_bounds-walk-end c =

@@ -1,9 +1,11 @@
--- Each case of the walk's answer is zeroed from its own place on.
-use Rattle.cfb.proofs.Clearing.{cleared_listed, cleared_refused}
+-- Past what `unwrap_or` gives the list is zero, which is the definition by either case of the walk's answer.
+use mathlib.Core.Path.{◌∙◌, ap}
+use Prim.Native.Nat.{ℕ}
+use lib.ListN.{length, take}
+use Rattle.alloc.specs.Opening.{padded}
+use Rattle.cfb.proofs.Clearing.{cleared_as}
 use Rattle.cfb.proofs.calls.clear_past.Goals as goal
 
-pub returns-in-Listed : goal.returns-in-Listed
-returns-in-Listed c = cleared_listed _ _ _ _ c.in-Listed.is c.zero_from.ensures
-
-pub returns-in-Refused : goal.returns-in-Refused
-returns-in-Refused c = cleared_refused _ _ _ _ c.in-Refused.is c.zero_from-in-Refused.ensures
+pub returns : goal.returns
+returns c =
+    c.zero_from.ensures ∙ ap (λ (k : ℕ). padded (take k c.args.ids.now) (length c.args.ids.now)) c.unwrap_or.ensures ∙ cleared_as c.args.walked c.args.ids.now

@@ -9,10 +9,10 @@ use Rattle.cfb.proofs.changes.done_with.Goals as goal
 
 pub overflow_add-s : goal.overflow_add-s
 overflow_add-s c =
-    omega (arith, c.requires.1, scaled (c.args.changed.sectors + 1) (state_len c.args.s) (omega (arith, length_least c.args.s.header.version)))
+    omega (arith, c.requires.1, scaled (c.args.sectors + 1) (state_len c.args.s) (omega (arith, length_least c.args.s.header.version)))
 
 pub overflow_mul-s : goal.overflow_mul-s
-overflow_mul-s c = omega (arith, used_own c.args.changed.sectors _ c.len_of-len.ensures c.requires.1)
+overflow_mul-s c = omega (arith, used_own c.args.sectors _ c.len_of.ensures c.requires.1)
 
 pub returns : goal.returns
-returns c = done_as c.args.s _ _ c.args.changed _ _ _ _ _ c.first_of-start.ensures c.bytes_of-bytes.ensures c.len_of-len.ensures c.content-header.ensures
+returns c = done_as c.args.s _ _ _ _ _ _ _ _ _ _ c.first_of.ensures c.bytes_of.ensures c.len_of.ensures c.content-s.ensures

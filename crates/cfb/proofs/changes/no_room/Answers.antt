@@ -14,8 +14,8 @@ use Rattle.cfb.proofs.changes.no_room.Goals.{After-room_of-room}
 room_is : (c : After-room_of-room) → c.room_of-room.result ≡ room_of (state_len c.args.s) c.args.lent
 room_is c = c.room_of-room.ensures ∙ ap (λ (v : Version). room_of (length_of v) c.args.lent) c.version.ensures
 
-pub returns-then-more-free : goal.returns-then-more-free
-returns-then-more-free c = room_free _ _ _ c.requires c.if-more-free.true
+pub returns-then-more-s : goal.returns-then-more-s
+returns-then-more-s c = room_free _ _ _ c.requires c.if-more-s.true
 
 pub has_room-requires : goal.has_room-requires
 has_room-requires c =

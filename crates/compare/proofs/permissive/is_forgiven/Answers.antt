@@ -1,24 +1,12 @@
-use mathlib.Core.Path.{◌≡◌, refl, ◌∙◌, ap}
-use native.Mathlib.Omega.{arith}
-use lib.Dec.{eqb}
-use lib.ListN.{length}
-use Rattle.lists.specs.Lists.{every}
-use Rattle.points.proofs.Testing.{flag_more}
+use Rattle.std.proofs.Common.{rules, ◌∙◌, eqb, arith}
+use Rattle.std.proofs.lemmas.Iterator.{YieldsList-from_slice, YieldsList-from_zip}
+use Rattle.judge.specs.Judge.{forgiven}
+use Rattle.points.proofs.Folding.{fold_all, every_zip}
 use Rattle.compare.proofs.Keeping.{forgiven_tells}
 use Rattle.compare.proofs.permissive.is_forgiven.Goals as goal
 
-pub loop-i-init : goal.loop-i-init
-unfolding every
-loop-i-init c = (omega arith, refl)
-
-pub bounds-raw-i : goal.bounds-raw-i
-bounds-raw-i c = omega (arith, c.requires)
-
-pub loop-i-preserved : goal.loop-i-preserved
-loop-i-preserved c = (omega arith, flag_more _ _ _ _ c.loop-i.invariant.1 (ap (eqb _) c.forgiven.ensures))
-
 pub returns : goal.returns
 returns c =
-    let l = c.loop-i in
-    let all : l.i ≡ length c.args.fat.now = omega arith in
-    rw all at l.invariant.1 ∙ forgiven_tells _ _ _ c.limit_of-limit.ensures
+    fold_all (λ (e, own). eqb e (forgiven c.limit_of-limit.result own)) _ _ c.fold.ensures.ran
+    (YieldsList-from_zip (YieldsList-from_slice c.args.fat.now cc) (YieldsList-from_slice c.args.raw.now cc)) (λ a x b f' k. search rules)
+    ∙ every_zip _ 0 0 _ _ (omega (arith, c.requires)) ∙ forgiven_tells _ _ _ c.limit_of-limit.ensures

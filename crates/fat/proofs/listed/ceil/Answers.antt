@@ -1,8 +1,7 @@
--- The quotient is the definition's own; the numbers are small enough for the sum.
-use mathlib.Core.Path.{refl}
-use Rattle.fat.specs.Lists.{ceil}
+-- Both quotients are the one whose multiple is the least that reaches a.
+use mathlib.Core.Path.{◌∙◌}
+use Rattle.fat.proofs.Listing.{ceil_is}
 use Rattle.fat.proofs.listed.ceil.Goals as goal
 
 pub returns : goal.returns
-unfolding ceil
-returns c = refl
+returns c = c.div_ceil.ensures ∙ ceil_is _ _ c.requires.0

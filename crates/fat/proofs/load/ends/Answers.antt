@@ -7,6 +7,6 @@ pub returns-then-v-eq-END_OF_CHAIN : goal.returns-then-v-eq-END_OF_CHAIN
 unfolding ends
 returns-then-v-eq-END_OF_CHAIN c = rw (eq-eqb _ _ c.if-v-eq-END_OF_CHAIN.true)
 
-pub returns : goal.returns
+pub returns-else-v-eq-END_OF_CHAIN : goal.returns-else-v-eq-END_OF_CHAIN
 unfolding ends
-returns c = rw (ne_eqb _ _ c.if-v-eq-END_OF_CHAIN.false)
+returns-else-v-eq-END_OF_CHAIN c = rw (ne_eqb _ _ c.if-v-eq-END_OF_CHAIN.false)

@@ -1,14 +1,10 @@
-use mathlib.Core.Path.{refl}
 use native.Mathlib.Omega.{arith}
-use lib.ListN.{length, length-set}
-use Rattle.fat.proofs.Loading.{filling_none, filling_more, places_stop, places_end, fewer_places}
+use lib.ListN.{length}
+use Rattle.fat.proofs.Loading.{filling_none, filling_more, places_stop, places_end}
 use Rattle.fat.proofs.load.list_fats.Goals as goal
 
 pub loop-p-init : goal.loop-p-init
-loop-p-init c = (omega arith, filling_none _ _ _, refl)
-
-pub place_at-id-requires : goal.place_at-id-requires
-place_at-id-requires c = fewer_places _ _ _ _ _ _ _ c.requires (omega (arith, c.requires.there))
+loop-p-init c = filling_none _ _ _
 
 pub returns-then-n-id : goal.returns-then-n-id
 returns-then-n-id c = let l = c.loop-p in
@@ -16,8 +12,8 @@ returns-then-n-id c = let l = c.loop-p in
 
 pub loop-p-preserved : goal.loop-p-preserved
 loop-p-preserved c = let l = c.loop-p in
-    (omega arith, filling_more _ _ l.p _ l.fats _ l.invariant.1 (omega arith) c.place_at-id.ensures c.if-n-id.false, simp length-set (omega arith))
+    filling_more _ _ l.p _ l.fats _ l.invariant (omega arith) c.place_at-id.ensures c.if-n-id.false
 
 pub returns : goal.returns
 returns c = let l = c.loop-p in
-    places_end _ _ _ _ _ l.p c.args.fats.now _ l.invariant.1 (omega arith)
+    places_end _ _ _ _ _ l.p c.args.fats.now _ l.invariant (omega arith)

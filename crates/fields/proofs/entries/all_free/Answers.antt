@@ -1,24 +1,13 @@
-use mathlib.Core.Path.{◌∙◌, sym, refl}
-use native.Mathlib.Omega.{arith}
-use Rattle.fields.proofs.Listed.{flag_free, flag_other, flag_end}
+-- Each entry is tested against FREE, and the flag keeps what each test said.
+use Rattle.std.proofs.Common.{rules, tests, ◌∙◌, ◌&&◌, true}
+use Rattle.std.proofs.lemmas.Iterator.{YieldsList-from_slice}
+use Rattle.std.proofs.lemmas.Iterator.Consumers.{fold_from_yields_List}
+use lib.Dec.{eqb}
+use Rattle.consts.specs.Consts.{free_sector}
+use Rattle.fields.proofs.Listed.{free_from}
 use Rattle.fields.proofs.entries.all_free.Goals as goal
-use Rattle.fields.proofs.entries.all_free.Goals.{then-list-i, else-list-i}
-
-pub loop-i-init : goal.loop-i-init
-loop-i-init c = (omega arith, refl)
-
-pub loop-i-preserved : goal.loop-i-preserved
-loop-i-preserved c = let l = c.loop-i in
-    let xs = c.args.list.now in
-    let h = c.loop-i-test.true in (
-      omega arith,
-      elim c.if-list-i.branch [
-        | then-list-i w ↦ flag_other xs l.i l.free c.if-list-i.free h l.invariant.1 w.if-list-i.true w.free-is
-        | else-list-i w ↦ flag_free xs l.i l.free c.if-list-i.free h l.invariant.1 w.if-list-i.false w.free-is
-      ],
-    )
 
 pub returns : goal.returns
 returns c =
-    let l = c.loop-i in
-    sym (l.invariant.1 ∙ flag_end _ l.i l.free c.loop-i-test.false)
+    fold_from_yields_List _ (λ b x. b && eqb x free_sector) true _ c.fold.ensures.ran (YieldsList-from_slice c.args.list.now (cc)) (λ a x b q k. search (rules, tests))
+    ∙ free_from true c.args.list.now

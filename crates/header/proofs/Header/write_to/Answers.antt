@@ -2,12 +2,11 @@
 use mathlib.Core.Path.{◌≡◌, sym, ◌∙◌, ap}
 use Prim.Native.Nat.{ℕ}
 use lib.ListN.{length}
-use native.Mathlib.Omega.{arith}
 use Rattle.header.specs.Versions.{major_of}
 use Rattle.header.specs.Read.{counts_dirs}
 use Rattle.fields.specs.Fields.{unreadable}
 use Rattle.header.specs.declared.Validation.TheVariants.{Strict}
-use Rattle.header.specs.declared.WriteVerdict.TheVariants.{Short, Directories, Entries}
+use Rattle.consts.specs.declared.refusal.Refusal.TheVariants.{TooShort, DirSectors, HeaderList}
 use Rattle.header.proofs.Writing.{gives_1, gives_7, gives_9, gives_0, says_no, says_yes, header_stored}
 use borrow.Author.Rules.{rules}
 use Rattle.header.proofs.Header.write_to.Goals as goal
@@ -25,17 +24,17 @@ entries_there : (c : After-list-2-1) → length c.args.self.list ≡ 109
 entries_there c = search rules
 
 pub returns-then-buf-lt-HEADER_LEN : goal.returns-then-buf-lt-HEADER_LEN
-returns-then-buf-lt-HEADER_LEN c = says_no _ _ Short (omega arith) (gives_1 _ _ c.if-buf-lt-HEADER_LEN.true)
+returns-then-buf-lt-HEADER_LEN c = says_no _ _ TooShort (gives_1 _ _ c.if-buf-lt-HEADER_LEN.true)
 
 pub returns-then-counts_dirs : goal.returns-then-counts_dirs
 returns-then-counts_dirs c =
     let passed = goal.at.returns-then-counts_dirs c in
-    says_no _ _ Directories (omega arith) (gives_7 _ _ c.if-buf-lt-HEADER_LEN.false (counted passed.After-counts_dirs ∙ c.if-counts_dirs.true))
+    says_no _ _ DirSectors (gives_7 _ _ c.if-buf-lt-HEADER_LEN.false (counted passed.After-counts_dirs ∙ c.if-counts_dirs.true))
 
 pub returns-then-unreadable : goal.returns-then-unreadable
 returns-then-unreadable c =
     let passed = goal.at.returns-then-unreadable c in
-    says_no _ _ Entries (omega arith) (gives_9 _ _ c.if-buf-lt-HEADER_LEN.false (counted passed.After-counts_dirs ∙ c.if-counts_dirs.false) (looked passed.After-unreadable ∙ c.if-unreadable.true))
+    says_no _ _ HeaderList (gives_9 _ _ c.if-buf-lt-HEADER_LEN.false (counted passed.After-counts_dirs ∙ c.if-counts_dirs.false) (looked passed.After-unreadable ∙ c.if-unreadable.true))
 
 pub returns : goal.returns
 returns c =

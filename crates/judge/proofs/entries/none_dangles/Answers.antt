@@ -1,25 +1,17 @@
-use mathlib.Core.Path.{◌≡◌, refl}
-use native.Mathlib.Omega.{arith}
-use lib.ListN.{length}
-use Rattle.lists.specs.Lists.{every}
-use Rattle.judge.specs.Judge.{none_dangles}
-use Rattle.judge.proofs.Judging.{sound_more, length_marks}
+-- The fold and-s the tests of each entry and its mark, of which there are as many.
+use mathlib.Core.Path.{◌∙◌, sym}
+use mathlib.Core.Bool.{not, ◌||◌}
+use lib.Dec.{eqb}
+use borrow.Author.Rules.{rules}
+use Rattle.std.proofs.lemmas.Iterator.{YieldsList-from_slice, YieldsList-from_zip}
+use Rattle.lists.proofs.Folds.{folded, all_paired}
+use Rattle.consts.specs.Consts.{free_sector}
+use Rattle.judge.proofs.Judging.{length_marks, sound_tests}
 use Rattle.judge.proofs.entries.none_dangles.Goals as goal
 
-pub loop-i-init : goal.loop-i-init
-unfolding every
-loop-i-init c = (omega arith, refl)
-
-pub bounds-marks-i : goal.bounds-marks-i
-bounds-marks-i c = omega (arith, length_marks _ _ _ c.requires)
-
-pub loop-i-preserved : goal.loop-i-preserved
-loop-i-preserved c =
-    (omega arith, sound_more _ _ _ _ _ c.requires c.loop-i-test.true c.loop-i.invariant.1)
-
 pub returns : goal.returns
-unfolding none_dangles
 returns c =
-    let l = c.loop-i in
-    let all : l.i ≡ length c.args.fat.now = omega arith in
-    rw all at l.invariant.1
+    folded (λ p. not (eqb p.0 free_sector) || not (eqb p.1 1)) (λ flag x next f k. search rules)
+    (YieldsList-from_zip (YieldsList-from_slice c.args.fat.now (search rules)) (YieldsList-from_slice c.args.marks.now (search rules))) c.fold.ensures.ran
+    ∙ all_paired _ c.args.fat.now c.args.marks.now (sym (length_marks _ _ _ c.requires))
+    ∙ sound_tests _ _ _ c.requires

@@ -1,21 +1,9 @@
-use mathlib.Core.Path.{◌≡◌, refl}
-use native.Mathlib.Omega.{arith}
-use lib.ListN.{length}
-use Rattle.lists.specs.Lists.{every}
+use Rattle.std.proofs.Common.{rules, ltb, ◌∙◌}
+use Rattle.std.proofs.lemmas.Iterator.{YieldsList-from_slice}
 use Rattle.fat.specs.Lists.{all_below}
-use Rattle.points.proofs.Testing.{flag_more}
+use Rattle.points.proofs.Folding.{fold_all, every_all}
 use Rattle.points.proofs.frees.all_below.Goals as goal
-
-pub loop-i-init : goal.loop-i-init
-unfolding every
-loop-i-init c = (omega arith, refl)
-
-pub loop-i-preserved : goal.loop-i-preserved
-loop-i-preserved c = (omega arith, flag_more _ _ _ _ c.loop-i.invariant.1 refl)
 
 pub returns : goal.returns
 unfolding all_below
-returns c =
-    let l = c.loop-i in
-    let all : l.i ≡ length c.args.xs.now = omega arith in
-    rw all at l.invariant.1
+returns c = fold_all (λ x. ltb x c.args.limit) _ _ c.fold.ensures.ran (YieldsList-from_slice c.args.xs.now cc) (λ a x b f' k. search rules) ∙ every_all _ 0 _

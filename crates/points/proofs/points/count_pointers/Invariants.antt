@@ -1,12 +1,11 @@
--- The invariant: the entries of the first q fours are counted; what is left after the last four is counted one by one.
-use Prim.Native.Nat.{◌-◌, ◌*◌, ◌/◌, ◌≤◌}
-use mathlib.Core.Path.{◌≡◌}
+-- The invariants: the entries of the fours so far are counted; then all fours, and what is left one by one.
+use Prim.Native.Nat.{◌+◌, ◌*◌, ◌/◌}
 use lib.ListN.{length}
-use Rattle.points.specs.Parts.{Counting}
+use Rattle.points.proofs.Pointing.{Counting}
 use Rattle.points.proofs.points.count_pointers.Given as goal
 
-abbrev pub invariant-loop-q : goal.invariant-loop-q
-invariant-loop-q l = (l.q ≤ l.fours) × (l.fours ≡ length l.fat / 4) × Counting l.fat l.counts (4 * l.q)
+abbrev pub invariant-loop-four : goal.invariant-loop-four
+invariant-loop-four l = Counting l.fat l.counts (4 * l.four-index)
 
-abbrev pub decreases-loop-q : goal.decreases-loop-q
-decreases-loop-q l = l.fours - l.q
+abbrev pub invariant-loop-entry : goal.invariant-loop-entry
+invariant-loop-entry l = Counting l.fat l.counts (4 * (length l.fat / 4) + l.entry-index)

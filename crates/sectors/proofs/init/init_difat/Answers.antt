@@ -6,4 +6,4 @@ use Rattle.sectors.proofs.init.init_difat.Goals as goal
 
 pub returns : goal.returns
 returns c =
-    init_difat _ _ _ _ c.requires.0 c.requires.1 (ap (λ (n : ℕ). n / 4 - 1) c.fill.auto.dst) c.fill.ensures c.put_entry.ensures
+    init_difat _ _ _ _ c.requires.0 c.requires.1 (ap (λ (n : ℕ). n / 4 - 1) c.fill.ensures.len) (c.fill.ensures.after (λ y e. e)) c.put_entry.ensures
