@@ -1,5 +1,5 @@
 -- From what the library says of a call to its agreement with the record. Assumes nothing.
-use Rattle.std.proofs.Common.{◌≡◌, ℕ, ◌+◌, ◌-◌, true, eqb, List, length, take, drop, sym, ap, ◌∙◌, ap₂, arith}
+use Rattle.std.proofs.Common.{◌≡◌, ℕ, ◌+◌, ◌-◌, eqb, List, length, take, drop, sym, ap, ◌∙◌, ap₂, arith}
 use Rattle.lists.specs.Lists.{choose, part, splice}
 use Rattle.words.specs.Words.{le}
 use Rattle.header.specs.Versions.{numbered_of}

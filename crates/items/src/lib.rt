@@ -8,6 +8,7 @@ use consts::{Found, Kind, Sector};
 use texts::Text;
 
 // The number of a kind.
+// kept: a function and no `From`, which Rust gives to a crate that has the type or the trait; the numbers are this crate's alone.
 pub fn number_of_kind(kind: Kind) -> u32
     ensures { result ≡ kind_number kind }
 {

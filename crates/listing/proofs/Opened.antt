@@ -22,7 +22,7 @@ use Rattle.alloc.specs.Opening.{Tables, open_fat, open_tables, shortest, first_r
 use Rattle.alloc.specs.Opened.{tables_left}
 use Rattle.alloc.proofs.Filled.{front_padded}
 use Rattle.cfb.specs.Face.{numbers_of, answer, sectors_of, tables_of, Opens}
-use Rattle.std.specs.Prelude.{Result, Ok, Err}
+use Rattle.std.specs.Prelude.{Ok, Err}
 use Rattle.consts.specs.Refusals.{ends_with}
 use Rattle.consts.specs.declared.refusal.Refusal.{Refusal}
 use Rattle.cfb.specs.declared.Counts.{Counts}
