@@ -16,7 +16,7 @@ use Rattle.sectors.specs.Sectors.{start_of, per_sector}
 use Rattle.sectors.specs.Init.{init_bytes}
 use Rattle.sectors.specs.declared.init.SectorInit.TheVariants.{Zero, Fat, Difat}
 use Rattle.fat.specs.Lists.{difat_count, room_of}
-use Rattle.disk.specs.Disk.{Disk, store, set_fat, push_fat, list_fat, list_difat, link_place, append_difat, needs_difat, store_place, hold_place, list_place, append_fat, ready, new_sector, reused}
+use Rattle.disk.specs.Disk.{Disk, store, entry_place, set_fat, push_fat, list_fat, list_difat, link_place, append_difat, needs_difat, store_place, hold_place, list_place, append_fat, ready, new_sector, reused}
 use Rattle.disk.specs.Fits.{Fits, FitsOne, FitsPlace, FitsFat, FitsNew}
 use Rattle.disk.proofs.Counting.{needs_full}
 use Rattle.disk.proofs.Keeping.{each_many, sectors_inside, sectors_of_fat, difats_inside}
@@ -31,10 +31,10 @@ abbrev Entry : ℕ → ℕ → List ℕ → List ℕ → ℕ → Type 0
 Entry S i fat fats len = ((i < length fat) × (i / per_sector S < length fats)) × (start_of S (get_or fats (i / per_sector S) 0) + S ≤ len)
 
 -- an entry that is set, in the table and in the bytes
-pub entry_set : (S i v : ℕ) (d : Disk) (after : List ℕ) → after ≡ splice d.image (start_of S (get_or d.fats (i / per_sector S) 0) + 4 * (i % per_sector S)) (digits 4 v)
-    → disk after (set d.fat i v) d.fats d.difats d.sectors ≡ set_fat S d i v
+pub entry_set : (S i v : ℕ) (d : Disk) (after fat' : List ℕ) → (after ≡ splice d.image (entry_place S d.fats i) (digits 4 v)) × (fat' ≡ set d.fat i v)
+    → disk after fat' d.fats d.difats d.sectors ≡ set_fat S d i v
 unfolding set_fat
-entry_set S i v d after e = rw e
+entry_set S i v d after fat' e = rw (e.0, e.1)
 
 -- a DIFAT sector: the link to it, once its bytes and its entry are there
 pub one_link : (S R j : ℕ) (d e : Disk) (img : List ℕ) → FitsOne S R j d → e ≡ set_fat S (disk img d.fat d.fats d.difats d.sectors) d.sectors difat_sector

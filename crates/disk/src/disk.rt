@@ -1,8 +1,9 @@
 // The FAT set and grown: each change goes to the lent tables and to the bytes of the image at once.
-ghost use Rattle.std.specs.Prelude.{◌≡◌, ◌+◌, ◌-◌, ◌*◌, ◌/◌, ◌≤◌, ◌<◌, length, get_or};
+ghost use Rattle.std.specs.Prelude.{◌≡◌, ◌+◌, ◌-◌, ◌*◌, ◌/◌, ◌≤◌, ◌<◌, length, get_or, set};
+ghost use Rattle.lists.specs.Lists.{splice};
 ghost use Rattle.sectors.specs.Sectors.{start_of, per_sector};
 ghost use Rattle.fat.specs.Lists.{most, room_of};
-ghost use Rattle.disk.specs.Disk.{store, set_fat as fat_set, link_place, append_difat, hold_place, list_place, append_fat, ready, new_sector as sector_added, reused, needs_difat as needs_difat_of};
+ghost use Rattle.disk.specs.Disk.{entry_place, store, set_fat as fat_set, link_place, append_difat, hold_place, list_place, append_fat, ready, new_sector as sector_added, reused, needs_difat as needs_difat_of};
 ghost use Rattle.disk.specs.Fits.{FitsOne, FitsPlace, FitsFat, FitsNew};
 ghost use Rattle.disk.specs.Held.{disk_in, DiskBecomes};
 ghost use Rattle.words.specs.Words.{digits};
@@ -36,6 +37,19 @@ pub fn needs_difat(s: usize, p: usize) -> bool
     ceil(p - 109, each) <= (p - 109) / each
 }
 
+// Sets entry i of the FAT, in the table and in the image. The list of the FAT's sectors is only read.
+pub fn set_fat(image: &mut [u8], s: usize, fat: &mut [u32], fats: &[u32], i: usize, v: u32)
+    requires s_value { (s ≡ 4 * per_sector s) × (1 ≤ per_sector s) }
+    requires i_in_bounds { (i < length fat.old) × (i / per_sector s < length fats.now) }
+    requires s_in_bounds { start_of s (get_or fats.now (i / per_sector s) 0) + s ≤ length image.old }
+    ensures { (image.new ≡ splice image.old (entry_place s fats.now i) (digits 4 v)) × (fat.new ≡ set fat.old i v) }
+{
+    let each = s / 4;
+    let id = fats[i / each] as usize;
+    put_at(image, s, id, i % each, v);
+    fat[i] = v;
+}
+
 impl Hand<'_, '_> {
     // Sets entry i of the FAT, in the table and in the image.
     pub fn set_fat(&mut self, i: usize, v: u32)
@@ -44,10 +58,10 @@ impl Hand<'_, '_> {
         requires s_in_bounds { start_of self.old.len (get_or self.old.tables.now.fats.now (i / per_sector self.old.len) 0) + self.old.len ≤ length self.old.image.now }
         ensures { DiskBecomes self.old self.new (fat_set self.old.len (disk_in self.old) i v) }
     {
-        let each = self.len / 4;
-        let id = self.tables.fats[i / each] as usize;
-        put_at(self.image, self.len, id, i % each, v);
-        self.tables.fat[i] = v;
+        let tables = &mut *self.tables;
+        let fat = &mut *tables.fat;
+        let fats = &mut *tables.fats;
+        set_fat(self.image, self.len, fat, fats, i, v);
     }
 
     // Links DIFAT sector id from the last of j, or from the header where there is none.

@@ -11,13 +11,9 @@ use Rattle.consts.specs.Consts.{free_sector}
 use Rattle.sectors.specs.Sectors.{start_of, per_sector}
 use Rattle.fat.specs.Lists.{most}
 use Rattle.disk.specs.Disk.{set_fat}
-use Rattle.disk.specs.Held.{disk_in, SameHand}
-use Rattle.disk.specs.declared.disk.Hand as lent
-use Rattle.hand.specs.Hand.{Hand, Chain, point, free_sector_of, free_run}
+use Rattle.hand.specs.Hand.{Hand, Chain, with_difats, point, free_sector_of, free_run}
 use Rattle.hand.specs.Fits.{FitsHand, FitsFrees, FitsChain}
-use Rattle.hand.specs.Held.{hand_in, HandBecomes}
-use Rattle.hand.proofs.Holding.{same_then}
-use Rattle.hand.proofs.Pointing.{HandLong, long_none, long_then, point_inside, point_fits, point_long, point_counts}
+use Rattle.hand.proofs.Pointing.{hand_of, HandLong, long_none, long_then, point_inside, point_fits, point_long}
 
 -- freeing leaves what the code asks for
 pub free_fits : (S R : ℕ) (h : Hand) (i : ℕ) → FitsHand S R h → i < h.disk.sectors → h.free < h.disk.sectors → FitsHand S R (free_sector_of S h i)
@@ -131,6 +127,11 @@ frees_some : (S R i k c : ℕ) (ids : List ℕ) (h : Hand) → FitsFrees S R i c
 frees_some S R i k c ids h f b =
     record { fits = f.fits; listed = omega (arith, f.listed, b); within = λ j l. f.within j (omega (arith, l, b)); room = omega (arith, f.room, b) }
 
+-- what can be freed can be freed by its own list of DIFAT sectors
+pub frees_own : (S R i c : ℕ) (ids : List ℕ) (h : Hand) → FitsFrees S R i c ids h → FitsFrees S R i c ids (with_difats h.disk.difats h)
+unfolding with_difats
+frees_own S R i c ids h f = f
+
 -- a sector whose entry was made FREE, and which joined the free list
 freed_of : (S : ℕ) (h pointed : Hand) (i : ℕ) → pointed ≡ point S h i free_sector
     → record { disk = pointed.disk; frees = set pointed.frees pointed.free i; free = pointed.free + 1; marks = pointed.marks } ≡ free_sector_of S h i
@@ -143,49 +144,71 @@ freed_of S h pointed i e =
 abbrev run_of : List ℕ → ℕ → ℕ → List ℕ
 run_of ids i c = take (i + c - i) (drop i ids)
 
+-- k of a run are freed, whatever list of DIFAT sectors is in hand
+pub record Freed (S n free : ℕ) (image₀ fat₀ fats frees₀ marks₀ ids : List ℕ) (i k : ℕ) (image fat frees marks : List ℕ) : Type 0 where
+  pub whole : (difats : List ℕ)
+      → hand_of n image fat fats difats frees (free + k) marks ≡ free_run S (hand_of n image₀ fat₀ fats difats frees₀ free marks₀) ids i k
+
+pub freed_none : (S n free : ℕ) (image fat fats frees marks ids : List ℕ) (i : ℕ) → Freed S n free image fat fats frees marks ids i 0 image fat frees marks
+freed_none S n free image fat fats frees marks ids i =
+    let none : free + 0 ≡ free = omega arith in
+    record { whole = λ difats. rw none (sym (free_none S (hand_of n image fat fats difats frees free marks) ids i)) }
+
+-- all of it are, once the loop is over
+pub freed_all : {S n free : ℕ} {image₀ fat₀ fats frees₀ marks₀ ids : List ℕ} {i k : ℕ} {image fat frees marks : List ℕ} (c : ℕ)
+    → Freed S n free image₀ fat₀ fats frees₀ marks₀ ids i k image fat frees marks → i + c ≤ length ids → k ≡ length (run_of ids i c)
+    → (difats : List ℕ)
+    → hand_of n image fat fats difats frees (free + c) marks ≡ free_run S (hand_of n image₀ fat₀ fats difats frees₀ free marks₀) ids i c
+freed_all {ids = ids} {i = i} {k = k} c w l e difats =
+    let all : c ≡ k = omega (arith, e, length-take-le (i + c - i) (drop i ids) (omega (arith, length-drop i ids, l))) in
+    rw all (w.whole difats)
+
 -- a turn of the loop that frees, where k are freed
-module _ {a b : lent.Hand} {R i c k : ℕ} {ids : List ℕ} (f : FitsFrees a.len R i c ids (hand_in a)) (m : HandBecomes a b (free_run a.len (hand_in a) ids i k))
-    (l : k < length (run_of ids i c)) where
+module _ {S R n free i c k : ℕ} {image₀ fat₀ fats frees₀ marks₀ ids image fat frees marks difats : List ℕ}
+    (f : FitsFrees S R i c ids (hand_of n image₀ fat₀ fats difats frees₀ free marks₀))
+    (w : Freed S n free image₀ fat₀ fats frees₀ marks₀ ids i k image fat frees marks) (l : k < length (run_of ids i c)) where
   turn_some : k < c
   turn_some = omega (arith, l, length-take-le (i + c - i) (drop i ids) (omega (arith, length-drop i ids, f.listed)))
 
   turn_id : get_or (run_of ids i c) k 0 ≡ get_or ids (i + k) 0
   turn_id = get_or-take (i + c - i) (drop i ids) k 0 (omega (arith, turn_some)) ∙ get_or-drop i ids k 0
 
-  turn_fits : FitsHand b.len R (hand_in b)
-  turn_fits = rw (m.same.len, m.hand) (free_run_fits a.len R i k ids (hand_in a) (frees_some a.len R i k c ids (hand_in a) f (omega (arith, turn_some))))
-
-  turn_sectors : b.sectors ≡ a.sectors
-  turn_sectors = ap (λ (h : Hand). h.disk.sectors) m.hand ∙ free_run_sectors a.len (hand_in a) ids i k
+  turn_fits : FitsHand S R (hand_of n image fat fats difats frees (free + k) marks)
+  turn_fits =
+      let begun = hand_of n image₀ fat₀ fats difats frees₀ free marks₀ in
+      rw (w.whole difats) (free_run_fits S R i k ids begun (frees_some S R i k c ids begun f (omega (arith, turn_some))))
 
   -- the entry of the next one can be set
-  pub turn_point : ((b.len ≡ 4 * per_sector b.len) × (1 ≤ per_sector b.len) × (b.sectors ≤ length b.tables.now.marks.now))
-      × (((get_or (run_of ids i c) k 0 < length b.tables.now.fat.now) × (get_or (run_of ids i c) k 0 / per_sector b.len < length b.tables.now.fats.now))
-      × (start_of b.len (get_or b.tables.now.fats.now (get_or (run_of ids i c) k 0 / per_sector b.len) 0) + b.len ≤ length b.image.now))
-  turn_point = point_inside b.len R (hand_in b) (get_or (run_of ids i c) k 0) turn_fits (rw turn_id (omega (arith, f.within (i + k) (omega (arith, turn_some)), turn_sectors)))
+  pub turn_point : ((S ≡ 4 * per_sector S) × (1 ≤ per_sector S) × (n ≤ length marks))
+      × (((get_or (run_of ids i c) k 0 < length fat) × (get_or (run_of ids i c) k 0 / per_sector S < length fats))
+      × (start_of S (get_or fats (get_or (run_of ids i c) k 0 / per_sector S) 0) + S ≤ length image))
+  turn_point =
+      point_inside S R (hand_of n image fat fats difats frees (free + k) marks) (get_or (run_of ids i c) k 0) turn_fits
+      (rw turn_id (f.within (i + k) (omega (arith, turn_some))))
 
-  -- and then the free list has room for it
-  module _ {p : lent.Hand} (q : HandBecomes b p (point b.len (hand_in b) (get_or (run_of ids i c) k 0) free_sector)) where
-    turn_count : p.free ≡ a.free + k
-    turn_count =
-        ap (λ (h : Hand). h.free) q.hand
-        ∙ (point_counts b.len (hand_in b) (get_or (run_of ids i c) k 0) free_sector).1
-        ∙ ap (λ (h : Hand). h.free) m.hand
-        ∙ free_run_count a.len (hand_in a) ids i k
+  -- the free list has room for it
+  pub turn_place : free + k < length frees
+  turn_place = omega (arith, turn_some, turn_fits.frees_long, f.room, f.fits.disk.inside)
 
-    pub turn_place : p.free < length p.tables.now.frees.now
-    turn_place = omega (arith, turn_count, f.room, f.fits.disk.inside, f.fits.frees_long, turn_some, m.same.lent.frees_long, q.same.lent.frees_long)
+  pub turn_small : free + k < most
+  turn_small = omega (arith, turn_some, f.room, f.fits.disk.inside, f.fits.disk.few)
 
-    pub turn_small : p.free < most
-    turn_small = omega (arith, turn_count, f.room, f.fits.disk.inside, f.fits.disk.few, turn_some)
-
-    pub turn_on : {d : lent.Hand} → SameHand p d
-        → hand_in d ≡ record { disk = disk_in p; frees = set p.tables.now.frees.now p.free (get_or (run_of ids i c) k 0); free = p.free + 1; marks = p.tables.now.marks.now }
-        → HandBecomes a d (free_run a.len (hand_in a) ids i (k + 1))
-    turn_on s e =
-        let one : k + 1 ≡ suc k = omega arith in
-        record {
-          same = same_then m.same (same_then q.same s);
-          hand = rw (one, free_last, sym m.hand, sym m.same.len, sym turn_id)
-              (e ∙ freed_of b.len (hand_in b) (hand_in p) (get_or (run_of ids i c) k 0) q.hand);
-        }
+  -- and then one more is freed
+  pub turn_on : (image' fat' marks' : List ℕ)
+      → ((difats frees : List ℕ) (free : ℕ)
+      → hand_of n image' fat' fats difats frees free marks' ≡ point S (hand_of n image fat fats difats frees free marks) (get_or (run_of ids i c) k 0) free_sector)
+      → Freed S n free image₀ fat₀ fats frees₀ marks₀ ids i (k + 1) image' fat' (set frees (free + k) (get_or (run_of ids i c) k 0)) marks'
+  turn_on image' fat' marks' p =
+      let id = get_or (run_of ids i c) k 0 in
+      let one : suc k ≡ k + 1 = omega arith in
+      let more : free + (k + 1) ≡ free + k + 1 = omega arith in
+      record {
+        whole = λ difats.
+            let begun = hand_of n image₀ fat₀ fats difats frees₀ free marks₀ in
+            ap (λ (m : ℕ). hand_of n image' fat' fats difats (set frees (free + k) id) m marks') more
+            ∙ freed_of S (hand_of n image fat fats difats frees (free + k) marks) (hand_of n image' fat' fats difats frees (free + k) marks') id (p difats frees (free + k))
+            ∙ ap (λ (h : Hand). free_sector_of S h id) (w.whole difats)
+            ∙ ap (free_sector_of S (free_run S begun ids i k)) turn_id
+            ∙ sym (free_last S begun ids i k)
+            ∙ ap (free_run S begun ids i) one;
+      }

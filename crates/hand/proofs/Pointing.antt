@@ -7,10 +7,11 @@ use native.Mathlib.Omega.{arith}
 use borrow.Author.Tests.{lt-ltb, le-ltb}
 use lib.Dec.{ltb}
 use lib.ListN.{length, get_or, set, length-set}
-use Rattle.lists.specs.Lists.{choose}
+use Rattle.lists.specs.Lists.{choose, splice}
+use Rattle.words.specs.Words.{digits}
 use Rattle.sectors.specs.Sectors.{start_of, per_sector}
 use Rattle.fat.specs.Lists.{fat_count}
-use Rattle.disk.specs.Disk.{Disk, set_fat}
+use Rattle.disk.specs.Disk.{Disk, entry_place, set_fat}
 use Rattle.disk.specs.Fits.{FitsWhole}
 use Rattle.disk.proofs.Fitting.{set_fits, set_long, entry_sector, fats_inside}
 use Rattle.disk.proofs.Keeping.{SameLong}
@@ -33,6 +34,19 @@ length_marked n marks t v = at (ltb t n)
     at : (b : Bool) → length (choose b (set marks t v) marks) ≡ length marks
     at true = length-set marks t v
     at false = refl
+
+-- what is in hand, by its parts
+abbrev pub hand_of : ℕ → List ℕ → List ℕ → List ℕ → List ℕ → List ℕ → ℕ → List ℕ → Hand
+hand_of n image fat fats difats frees free marks =
+    record { disk = record { image = image; fat = fat; fats = fats; difats = difats; sectors = n }; frees = frees; free = free; marks = marks }
+
+-- an entry made to point elsewhere: the old mark is lost, the new one comes, and the entry is set, whatever else is in hand
+pub pointed_of : (S n : ℕ) (image fat fats marks : List ℕ) (i v : ℕ) (image' fat' lost marks' : List ℕ) → lost ≡ marked n marks (get_or fat i 0) 0
+    → marks' ≡ marked n lost v 1 → (image' ≡ splice image (entry_place S fats i) (digits 4 v)) × (fat' ≡ set fat i v)
+    → (difats frees : List ℕ) (free : ℕ)
+    → hand_of n image' fat' fats difats frees free marks' ≡ point S (hand_of n image fat fats difats frees free marks) i v
+unfolding point set_fat
+pointed_of S n image fat fats marks i v image' fat' lost marks' l m s difats frees free = rw (m, l, s.0, s.1)
 
 -- an entry of a sector in hand can be set
 pub entry_in_hand : (S R : ℕ) (d : Disk) (i : ℕ) → FitsWhole S R d → i < d.sectors

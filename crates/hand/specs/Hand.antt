@@ -11,13 +11,19 @@ pub record Hand : Type 0 where
   pub free : ℕ
   pub marks : List ℕ
 
+-- the same, with another list of DIFAT sectors
+unfoldable pub with_difats : List ℕ → Hand → Hand
+with_difats difats h =
+    record {
+      disk = record { image = h.disk.image; fat = h.disk.fat; fats = h.disk.fats; difats = difats; sectors = h.disk.sectors };
+      frees = h.frees;
+      free = h.free;
+      marks = h.marks;
+    }
+
 -- document 01: the mark of t, where t is one of n sectors; END and FREE are none
 unfoldable pub marked : ℕ → List ℕ → ℕ → ℕ → List ℕ
 marked n marks t v = choose (ltb t n) (set marks t v) marks
-
--- what is in hand, with that mark
-abbrev pub with_mark : Hand → ℕ → ℕ → Hand
-with_mark h t v = record { disk = h.disk; frees = h.frees; free = h.free; marks = marked h.disk.sectors h.marks t v }
 
 -- entry i becomes v: the sector that it pointed at loses its mark, and the one that it points at then has it
 unfoldable pub point : ℕ → Hand → ℕ → ℕ → Hand

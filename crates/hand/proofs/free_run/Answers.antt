@@ -1,25 +1,18 @@
+-- The parts are freed by any list of DIFAT sectors that fits, and the lent one stays.
 use Rattle.std.proofs.Common.{rules}
-use mathlib.Core.Path.{refl}
 use native.Mathlib.Omega.{arith}
-use Rattle.hand.proofs.Freeing.{free_none, turn_point, turn_place, turn_small, turn_on}
+use Rattle.hand.specs.Hand.{with_difats}
 use Rattle.hand.proofs.free_run.Goals as goal
 
-pub loop-id-init : goal.loop-id-init
-loop-id-init c = search (rules, free_none)
-
-pub point-requires : goal.point-requires
-point-requires c =
-    let given = turn_point c.requires c.loop-id.invariant c.loop-id-test.true in
-    record { s_value = given.0; i_in_bounds = given.1.0; s_in_bounds = given.1.1 }
-
-pub offset_bounds-hand-hand : goal.offset_bounds-hand-hand
-offset_bounds-hand-hand c = omega (arith, turn_small c.requires c.loop-id.invariant c.loop-id-test.true c.point.ensures)
-
-pub bounds-hand-hand : goal.bounds-hand-hand
-bounds-hand-hand c = turn_place c.requires c.loop-id.invariant c.loop-id-test.true c.point.ensures
+pub free_run-requires : goal.free_run-requires
+unfolding with_difats
+free_run-requires c = c.requires
 
 pub overflow_add-hand : goal.overflow_add-hand
-overflow_add-hand c = omega (arith, turn_small c.requires c.loop-id.invariant c.loop-id-test.true c.point.ensures)
+unfolding with_difats
+overflow_add-hand c =
+    let given = c.requires.1 in
+    omega (arith, given.room, given.fits.disk.inside, given.fits.disk.few)
 
-pub loop-id-preserved : goal.loop-id-preserved
-loop-id-preserved c = turn_on c.requires c.loop-id.invariant c.loop-id-test.true c.point.ensures (search rules) refl
+pub returns : goal.returns
+returns c = record { same = search rules; hand = c.free_run.ensures _ }
