@@ -13,7 +13,7 @@ fn read_at(image: &[u8], s: usize, id: usize, x: usize, out: &mut [u8])
     ensures { out.new ≡ part (sector_of s image.now id) x (length out.old) }
 {
     let sector = &image[(id + 1) * s..][..s];
-    out.copy_from_slice(&sector[x..][..out.len()]);
+    words::copy(&sector[x..][..out.len()], out);
 }
 
 // Reads the chain's bytes from the offset on into the front of buf, a run within a sector at a time:

@@ -14,7 +14,7 @@ fn write_at(image: &mut [u8], s: usize, id: usize, x: usize, run: &[u8])
     ensures { image.new ≡ splice image.old (start_of s id + x) run.now }
 {
     let at = (id + 1) * s + x;
-    image[at..at + run.len()].copy_from_slice(run);
+    words::copy(run, &mut image[at..at + run.len()]);
 }
 
 // Writes buf over the chain's bytes from the offset on, a run within a sector at a time.
