@@ -25,16 +25,16 @@ fn entries_of(case: &[u8; RECORD]) -> [u8; 512]
     sector
 }
 
-// A header and 24 sectors: the header of the record, its FAT sector in its place, and zeros.
-fn sectors_of(case: &[u8; RECORD], place: usize) -> [u8; 12800]
+// Puts a header and 24 sectors: the header of the record, its FAT sector in its place, and zeros.
+// kept: into a lent image, as 12,800 bytes that are returned are copied twice.
+fn put_sectors(case: &[u8; RECORD], place: usize, image: &mut [u8; 12800])
     requires { (place ≡ place_in case.now) × (place < 24) }
-    ensures { result ≡ sector_bytes case.now }
+    ensures { image.new ≡ sector_bytes case.now }
 {
-    let mut image = [0u8; 12800];
+    image.fill(0);
     image[..512].copy_from_slice(&case[8..520]);
     let at = 512 * (place + 1);
     image[at..at + 512].copy_from_slice(&entries_of(case));
-    image
 }
 
 // Whether a table holds the 24 numbers that stand in 96 bytes.
@@ -133,6 +133,7 @@ pub fn same_image(case: &[u8; RECORD]) -> bool
     if 24 < n || 23 < place {
         return false;
     }
-    let image = sectors_of(case, place);
+    let mut image = [0u8; 12800];
+    put_sectors(case, place, &mut image);
     opened_as(case, &image[..512 * (n + 1)])
 }

@@ -4,11 +4,11 @@ use Rattle.openings.specs.Openings.{place_in}
 use Rattle.openings.proofs.Opened.{image_agrees}
 use Rattle.openings.proofs.same_image.Goals as goal
 
-pub sectors_of-image-requires : goal.sectors_of-image-requires
+pub put_sectors-requires : goal.put_sectors-requires
 unfolding place_in
-sectors_of-image-requires c = (c.from-place.ensures, omega arith)
+put_sectors-requires c = (c.from-place.ensures, omega arith)
 
 pub returns : goal.returns
 unfolding place_in
 returns c =
-    λ e. image_agrees _ c.length_in-n.ensures c.if-n-gt24.false c.from-place.ensures c.if-place-gt23.false c.sectors_of-image.ensures (c.opened_as.ensures e)
+    λ e. image_agrees _ c.length_in-n.ensures c.if-n-gt24.false c.from-place.ensures c.if-place-gt23.false c.put_sectors.ensures (c.opened_as.ensures e)
