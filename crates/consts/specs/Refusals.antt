@@ -1,5 +1,6 @@
--- The numbers of the refusals (document 01's tables). Assumes nothing.
-use Rattle.std.specs.Prelude.{ℕ, ◌≡◌, Result, Ok, Err, IfOk}
+-- The numbers of the refusals (document 01's tables), and their text. Assumes nothing.
+use Rattle.std.specs.Prelude.{ℕ, ◌≡◌, List, ◌++◌, codes, Result, Ok, Err, IfOk}
+use Rattle.std.specs.Fmt.{decimal}
 use Rattle.consts.specs.declared.refusal.Refusal.{Refusal}
 use Rattle.consts.specs.declared.refusal.Refusal.TheVariants.{TooShort, Signature, ByteOrder, Version, SectorShift, MiniSectorShift, DirSectors, Cutoff, HeaderList, WholeSectors, ShortTable, FatLists, FatTail, Unmarked, PastEnd, PointedTwice, InvalidEntry, FreePointee, Disagrees, BadStart, BrokenChain, Loop, Offset, NoRoom, MidChain, PermissiveChange}
 
@@ -31,6 +32,10 @@ number_of Offset = 23
 number_of NoRoom = 24
 number_of MidChain = 25
 number_of PermissiveChange = 26
+
+-- the text of a refusal: the word, a space, and the decimal digits of its number
+abbrev pub refusal_text : Refusal → List ℕ
+refusal_text e = codes "refusal " ++ decimal (number_of e)
 
 -- the number that an answer ends with: 0 for an acceptance
 abbrev pub ends_with : {A : Type 0} → Result A Refusal → ℕ

@@ -1,6 +1,7 @@
 // Why a call refuses, and the number that the specification gives each cause.
-ghost use Rattle.std.specs.Prelude.{◌≡◌};
-ghost use Rattle.consts.specs.Refusals.{number_of, ends_with};
+ghost use Rattle.std.specs.Prelude.{◌≡◌, Some};
+ghost use Rattle.std.specs.Fmt.{WritesOnOk};
+ghost use Rattle.consts.specs.Refusals.{number_of, refusal_text, ends_with};
 
 use std::error::Error;
 use std::fmt;
@@ -108,8 +109,13 @@ pub fn ends_with<T>(answer: &Result<T, Refusal>) -> u32
     }
 }
 
+// The word, a space and the number, as `refusal 1`.
 impl fmt::Display for Refusal {
-    fn fmt<W: fmt::Write>(&self, f: &mut fmt::Formatter<W>) -> fmt::Result {
+    ghost output = { λ e. Some (refusal_text e) };
+
+    fn fmt<W: fmt::Write>(&self, f: &mut fmt::Formatter<W>) -> fmt::Result
+        ensures { WritesOnOk W.write_str_gives f.old result (refusal_text self.now) f.new }
+    {
         write!(f, "refusal {}", self.number())
     }
 }
