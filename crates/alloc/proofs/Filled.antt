@@ -26,7 +26,7 @@ pub zero_front : (xs : List ℕ) (n : ℕ) → xs ≡ replicate (length xs) 0 �
 zero_front xs n e h = ap (take n) e ∙ take-replicate n (length xs) 0 h
 
 -- what was put over the front, and zeros after it
-put_front : (xs ys front : List ℕ) (n : ℕ) → xs ≡ replicate (length xs) 0 → front ≡ ys → length ys ≡ n → front ++ drop n xs ≡ padded ys (length xs)
+pub put_front : (xs ys front : List ℕ) (n : ℕ) → xs ≡ replicate (length xs) 0 → front ≡ ys → length ys ≡ n → front ++ drop n xs ≡ padded ys (length xs)
 unfolding padded
 put_front xs ys front n e f l = rw (f, ap (drop n) e ∙ drop-replicate n (length xs) 0, l)
 

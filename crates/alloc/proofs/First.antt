@@ -85,11 +85,11 @@ pub early_unique : (img : List ℕ) (used : ℕ) (m : Validation) (short : ℕ) 
 early_unique img used m short r q s t = answers_apart r q (early_of img used) (s.number ∙ sym t.number) s.early t.early
 
 -- a sector is not empty, and whole sectors that hold something are one at least
-length_some : (v : Version) → 512 ≤ length_of v
+pub length_some : (v : Version) → 512 ≤ length_of v
 length_some V3 = omega arith
 length_some V4 = omega arith
 
-one_whole : (used s : ℕ) → 1 ≤ used → used % s ≡ 0 → 1 ≤ used / s
+pub one_whole : (used s : ℕ) → 1 ≤ used → used % s ≡ 0 → 1 ≤ used / s
 one_whole used s h e =
     ⊎_elim
     (λ (z : used / s ≡ 0). absurd (omega (arith, div-add-mod' used s, ap (λ (q : ℕ). q * s) z, zero-mul s)))

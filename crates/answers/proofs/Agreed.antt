@@ -1,5 +1,5 @@
 -- From what the library says of a call to its agreement with the record. Assumes nothing.
-use Rattle.std.proofs.Common.{◌≡◌, ℕ, ◌+◌, ◌-◌, eqb, List, length, take, drop, sym, ap, ◌∙◌, ap₂, arith}
+use Rattle.std.proofs.Common.{◌≡◌, ℕ, ◌+◌, ◌-◌, ◌*◌, ◌%◌, ◌^◌, eqb, List, length, take, drop, sym, ap, ◌∙◌, ap₂, arith}
 use Rattle.lists.specs.Lists.{choose, part, splice}
 use Rattle.words.specs.Words.{le}
 use Rattle.header.specs.Versions.{numbered_of}
@@ -33,6 +33,10 @@ pub read_agrees : (b : List ℕ) {v : Version} {m : Validation} {s : List ℕ} {
 read_agrees b {v} {r = r} named l e f says n k h =
     let right : ReadSays (part b 8 (length_in b)) (mode_in b) r = rw (← l, ← e, ← f) says in
     record { version = v; named = named; number = sym right.number ∙ n ∙ k; words = sym (left_by _ _ r right) ∙ h }
+
+-- the byte after 7 i + 3 is 7 (i + 1) + 3
+pub byte_next : (i : ℕ) {v : ℕ} → v ≡ (7 * i + 3) % 256 → (v + 7) % 2 ^ 8 ≡ (7 * (i + 1) + 3) % 256
+byte_next i e = omega arith
 
 -- a writing over the bytes of the record's buffer that left certain bytes
 pub written_agrees : (h : Header) (n : ℕ) {buf left bytes : List ℕ} {written : Result (Unit {0}) Refusal} {no : ℕ} → buf ≡ before n → length buf ≡ n → WriteSays h buf left written

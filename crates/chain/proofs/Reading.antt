@@ -33,14 +33,14 @@ reading_begun S img ids offset before count end a c e = record {
 
 module _ {S : ℕ} {img ids : List ℕ} {offset : ℕ} {before : List ℕ} {count end turn : ℕ} {buf : List ℕ} {x done : ℕ}
     (g : Reading S img ids offset before count end turn buf x done) where
-  reading_fits : count ≤ length before
+  pub reading_fits : count ≤ length before
   reading_fits = omega (arith, g.counted, count_fits S ids offset before)
 
   -- bytes that are read
   run_long : (o k : ℕ) → o + k ≤ offset + count → length (part (chain_bytes S img ids) o k) ≡ k
   run_long o k h = length_part (chain_bytes S img ids) o k (omega (arith, length_chain S img ids g.asks.lies, g.stands.few))
 
-  reading_length : length buf ≡ length before
+  pub reading_length : length buf ≡ length before
   reading_length =
       ap length g.holds
       ∙ length_splice before 0 (part (chain_bytes S img ids) offset done) (omega (arith, run_long offset done (omega (arith, turns_done g.stands)), turns_done g.stands, reading_fits))

@@ -12,6 +12,7 @@ use Rattle.std.proofs.lemmas.List.{get_or-take, get_or-drop}
 use Rattle.std.proofs.lemmas.Nat.{div-mul-add, mod-mul-add}
 use Rattle.lists.proofs.Cases.{below_or}
 use Rattle.sectors.specs.Sectors.{start_of}
+use Rattle.sectors.proofs.Laws.{scaled}
 use Rattle.chain.specs.Bytes.{Lies}
 
 -- byte o is in one of the sectors listed, which lie in an image of len bytes
@@ -20,13 +21,20 @@ pub record Stands (S len : ℕ) (ids : List ℕ) (o : ℕ) : Type 0 where
   pub place : o / S < length ids
 
 module _ {S len : ℕ} {ids : List ℕ} {o : ℕ} (b : Stands S len ids o) where
-  -- its sector lies in the image
+  -- its sector lies in the image, and has a number below the image's length
   pub stands_inside : start_of S (get_or ids (o / S) 0) + S ≤ len
   stands_inside = b.lies.inside (o / S) b.place
+
+  pub stands_id : get_or ids (o / S) 0 < len
+  stands_id = omega (arith, stands_inside, scaled (get_or ids (o / S) 0 + 1) S b.lies.some)
 
   -- and it has a place within that sector
   pub stands_byte : o % S < S
   stands_byte = mod-lt o b.lies.some
+
+  -- a run that ends with that sector or with the last of count elements leaves fewer to do
+  pub run_less : (count done step : ℕ) → done < count → step ≡ min (S - o % S) (count - done) → count - (done + step) < count - done
+  run_less count done step more e = omega (arith, stands_byte)
 
 -- the ids of the sectors that hold the bytes from an offset on, up to sector end of those listed
 abbrev pub lent_ids : ℕ → ℕ → ℕ → List ℕ → List ℕ

@@ -2,3 +2,4 @@ pub mod Counting
 pub mod Fitting
 pub mod Growing
 pub mod Keeping
+pub mod Storing

@@ -19,10 +19,14 @@ use Rattle.states.proofs.Again.{header_fits, state_holds}
 use Rattle.states.proofs.Telling.{number_of_lem, words_of_lem}
 use Rattle.export.specs.Changes.{ChangeGives, EditChainGives}
 
--- the number of a call on words that hold a state
+-- the number of a call on words that hold a state, and on words that hold none
 pub held_number : (words : List ℕ) (k : ℕ) → holds words ≡ true → k ≡ held_no words k
 unfolding held_no
 held_number words k h = rw h
+
+pub unheld_number : (words : List ℕ) (k : ℕ) → holds words ≡ false → 19 ≡ held_no words k
+unfolding held_no
+unheld_number words k h = rw h
 
 -- the words of the state after a change: a refusal leaves those that came in
 words_left : (words : List ℕ) (t : Bool) (s held : State) → state_words held ≡ words → state_words (choose t s held) ≡ choose t (state_words s) words

@@ -4,7 +4,7 @@ use mathlib.Core.Path.{◌≡◌, refl, sym, ◌∙◌, ap}
 use mathlib.Core.Bool.{Bool, true, false}
 use mathlib.Core.List.{List, ◌++◌}
 use native.Mathlib.Omega.{arith}
-use native.Mathlib.Nat.{div-lt_iff_lt-mul, mul-le-mul_right, add-mul, one-mul, zero-mul}
+use native.Mathlib.Nat.{div-lt_iff_lt-mul, mul-le-mul_right, add-mul, one-mul, zero-mul, mod-lt}
 use native.Mathlib.Numerals.{add-one}
 use borrow.Author.Tests.{lt-ltb, le-ltb}
 use lib.Dec.{eqb, ltb}
@@ -17,7 +17,7 @@ use Rattle.sectors.specs.Sectors.{sector_of, per_sector, entry_in, entry_of, fre
 use Rattle.sectors.proofs.Laws.{entry_in_sector}
 use Rattle.consts.specs.Consts.{free_sector}
 use Rattle.fat.specs.Lists.{difat_at, difats_of, place_at, fats_of, fat_of, all_below, ends, tail_free}
-use Rattle.fat.specs.Loaded.{ChainListed, PlacesListed}
+use Rattle.fat.specs.Loaded.{ChainListed, PlacesListed, Places}
 
 -- a list that is a table of values is below n where the values are
 pub below_tab : (n : ℕ) (f : ℕ → ℕ) (d : ℕ) → all_below n (tab f d) ≡ every d (λ i. ltb (f i) n)
@@ -92,6 +92,10 @@ place_high S img list difats p v h e = e ∙ sym (rw (le-ltb p 109 h))
 pub place_index : (p d e : ℕ) → 1 ≤ e → p < 109 + d * e → 109 ≤ p → (p - 109) / e < d
 place_index p d e pos h l = (div-lt_iff_lt-mul {k = e} {x = p - 109} {y = d} pos).1 (omega arith)
 
+-- and its entry there lies within the sector
+pub place_slot : (S p : ℕ) → S ≡ 4 * per_sector S → 2 ≤ per_sector S → 4 * ((p - 109) % (per_sector S - 1)) + 4 ≤ S
+place_slot S p e two = omega (arith, mod-lt (p - 109) {m = per_sector S - 1} (omega arith))
+
 -- the places are listed, or stop at one that is not below n
 pub places_stop : (S : ℕ) (img : List ℕ) (n : ℕ) (list difats : List ℕ) (k j : ℕ) (fats : List ℕ) → j < k → n ≤ place_at S img list difats j → PlacesListed S img n list difats k false fats
 unfolding fats_of
@@ -104,6 +108,10 @@ unfolding fats_of
 places_end S img n list difats j before now s e =
     let all = filling_all (place_at S img list difats) n j before now s e in
     record { right = sym all.0; listed = λ t. all.1 }
+
+-- fewer places can be read where more can
+pub fewer_places : (S n len : ℕ) (list difats : List ℕ) (k j : ℕ) → Places S n len list difats k → j ≤ 109 + length difats * (per_sector S - 1) → Places S n len list difats j
+fewer_places S n len list difats k j p h = record { holds = p.holds; whole = p.whole; below = p.below; there = h; small = p.small }
 
 -- where sector p of the FAT begins among the m entries
 pub sector_begins : (p k e m : ℕ) → p < k → k * e < m + e → p * e < m
@@ -155,3 +163,9 @@ tail_last S img fats n k e low high =
     (λ i l.
     let p : n + i ≡ k * per_sector S + (n - k * per_sector S + i) = omega arith in
     ap (λ (v : ℕ). eqb v free_sector) (sym (ap (entry_of S img fats) p ∙ entry_in_sector S img fats k (n - k * per_sector S + i) (omega arith))))
+
+-- the last of k sectors reaches as far as all of them
+pub sector_reaches : (k e m : ℕ) → 1 ≤ k → m ≤ k * e → m ≤ (k - 1) * e + e
+sector_reaches k e m h l =
+    let q : (k - 1 + 1) * e ≡ k * e = ap (λ (x : ℕ). x * e) (omega arith) in
+    omega (arith, add-mul (k - 1) 1 e, one-mul e)

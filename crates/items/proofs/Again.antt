@@ -17,7 +17,7 @@ Entries (Difat n) = Unit {0}
 Entries (Range a b) = (a ≤ free_sector) × (b ≤ free_sector)
 
 -- a range by its numbers
-range_known : (a b : ℕ) → a ≤ free_sector → b ≤ free_sector → named_range a b ≡ Some (Range a b)
+pub range_known : (a b : ℕ) → a ≤ free_sector → b ≤ free_sector → named_range a b ≡ Some (Range a b)
 unfolding named_range
 range_known a b h k = rw (le-leb a free_sector h, le-leb b free_sector k)
 

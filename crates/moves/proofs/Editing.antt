@@ -152,7 +152,7 @@ module _ (S R : ℕ) (e : Edit) (bytes : ℕ) (c : Chain) (f : FitsEdit S R e by
         (omega (arith, after_count, chain_room S R after after_fits), rw after_count at w)
 
 -- a chain in hand whose bytes are stored
-edited_of : (S R : ℕ) (e : Edit) (buf : List ℕ) (c : Chain) → FitsEdit S R e (length buf) c → (need : ℕ) → need ≡ edit_need S c.count e (length buf)
+pub edited_of : (S R : ℕ) (e : Edit) (buf : List ℕ) (c : Chain) → FitsEdit S R e (length buf) c → (need : ℕ) → need ≡ edit_need S c.count e (length buf)
     → (h : Hand) (ids : List ℕ) → record { hand = h; ids = ids; count = need } ≡ fitted S c need
     → (img : List ℕ) → img ≡ stored S c.count need h.disk.image (take need ids) e buf → with_image (record { hand = h; ids = ids; count = need }) img ≡ edited S c e buf
 unfolding with_image ids_of edit_need resize_more stored written

@@ -1,7 +1,7 @@
 -- What a record holds, and what a comparison that fails says. Assumes nothing.
 use Prim.Native.Nat.{ℕ, ◌≤◌}
 use mathlib.Core.Path.{◌≡◌, refl, ◌∙◌, sym, ap}
-use mathlib.Core.Bool.{true, false}
+use mathlib.Core.Bool.{Bool, true, false, not}
 use mathlib.Core.List.{List, ◌++◌, append-nil}
 use native.Mathlib.Omega.{arith}
 use lib.ListN.{length, drop, drop_of_length-le}
@@ -15,6 +15,11 @@ use Rattle.records.specs.Records.{numbers_in, header_in}
 -- a comparison that fails says nothing
 pub never : {A : Type 0} → false ≡ true → A
 never e = absurd (not_both e refl)
+
+-- a test whose opposite fails holds
+pub not_false : (t : Bool) → not t ≡ false → t ≡ true
+not_false true e = refl
+not_false false e = sym e
 
 -- the header of the words that were taken
 pub header_held : (v : Version) (b : List ℕ) {words : List ℕ} {h : Header} → h ≡ header_with v words → words ≡ numbers_in b 117 → h ≡ header_in v b

@@ -21,6 +21,10 @@ use Rattle.disk.specs.Disk.{needs_difat, after_fat, one_more, count_after}
 pub quotient_times : (a b m : ℕ) → m ≤ b → a / b * m ≤ a
 quotient_times a b m h = omega (arith, mul-le-mul_left (a / b) h, div-mul-le_self a b)
 
+-- what is left of whole parts is less than a part
+pub left_less : (a b : ℕ) → 1 ≤ b → a - a / b * b < b
+left_less a b h = omega (arith, div-add-mod a b, mul_comm b (a / b), mod-lt a h)
+
 -- a number of whole parts is itself rounded up, and any other one more
 ceil_parts : (q b r : ℕ) → 1 ≤ b → r < b → (q * b + r) / b ≡ q
 ceil_parts q b r h l = mul-add-div_right {m = b} h q r ∙ rw (div-eq_of_lt l, add-zero)

@@ -78,6 +78,10 @@ length_init S Difat e h =
     length_list_bytes (replicate (per_sector S - 1) free_sector ++ (end_of_chain ∷ []))
     ∙ omega (arith, length-append (replicate (per_sector S - 1) free_sector) (end_of_chain ∷ []), length-replicate {A = ℕ} (per_sector S - 1) free_sector, e)
 
+-- a sector of entries has a byte
+pub init_length : (S : ℕ) → S ≡ 4 * per_sector S → 1 ≤ per_sector S → 1 ≤ S
+init_length S e h = omega (arith, e)
+
 -- a run stored in a sector that was lent, and a whole sector
 pub put_part : (S i : ℕ) (img run : List ℕ) (a e o : ℕ) (ys : List ℕ) → o + length ys ≤ S → start_of S i + S ≤ length img → (a ≡ start_of S i) × (e ≡ start_of S i + S)
     → run ≡ splice (take (e - a) (drop a img)) o ys → put_mid a (e - a) img run ≡ splice img (start_of S i + o) ys

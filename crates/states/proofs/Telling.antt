@@ -42,3 +42,8 @@ number_of_lem a k ids start bytes e = number_told a ∙ ap (λ (l : List ℕ). g
 
 pub words_of_lem : (a : Result Done Refusal) (k ids start bytes : ℕ) → told_by a ≡ told k ids start bytes → answer_words a ≡ given k ids start bytes
 words_of_lem a k ids start bytes e = words_told a ∙ ap three e ∙ told_words k ids start bytes
+
+-- 19 has three zeros beside it
+pub zeros_given : (ids start bytes : ℕ) → 0 ∷ 0 ∷ 0 ∷ [] ≡ given 19 ids start bytes
+unfolding given
+zeros_given ids start bytes = refl

@@ -69,7 +69,10 @@ decimal_front n =
 pub front_length : (n : ℕ) → length (decimal_of n) ≡ length (front_of n) + 1
 front_length n = ap length (sym (decimal_front n)) ∙ length-append (front_of n) ((48 + n % 10) ∷ [])
 
--- the number of digits
+-- the number of digits: one, and one more than of a tenth
+pub decimal_length_one : (n : ℕ) → n < 10 → length (decimal_of n) ≡ 1
+decimal_length_one n h = ap length (decimal_one n h)
+
 pub decimal_length_more : (n : ℕ) → 10 ≤ n → length (decimal_of n) ≡ length (decimal_of (n / 10)) + 1
 decimal_length_more n h = ap length (decimal_more n h) ∙ length-append (decimal_of (n / 10)) ((48 + n % 10) ∷ [])
 
