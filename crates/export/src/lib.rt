@@ -30,9 +30,16 @@ pub fn rasuvelk_read_header(bytes: &[u8], mode: u32, words: &mut [u32; 117]) -> 
     ensures value { result ≡ read_no (mode_of mode) bytes.now }
     ensures words_after { words.new ≡ words_of (header_left (mode_of mode) bytes.now) }
 {
-    let read = Header::read_from(bytes, mode_of(mode));
-    *words = words_of(read.unwrap_or_else(|_| Header::none()));
-    ends_with(&read)
+    match Header::read_from(bytes, mode_of(mode)) {
+        Ok(header) => {
+            *words = words_of(header);
+            0
+        }
+        Err(refusal) => {
+            *words = words_of(Header::none());
+            refusal.number()
+        }
+    }
 }
 
 // Writes a header over the first 512 bytes: 0, or the number of the refusal, which leaves every byte. A version that is none is judged first.
